@@ -4,6 +4,7 @@ use Rattle.std.specs.Prelude.{Result, Ok, Err, IfOk, OnErr, max, min, nat_lt}
 use Rattle.build_model.proofs.Lists.{true_false}
 use Rattle.scons_base.specs.declared.ids.NodeId.{NodeId}
 use Rattle.world_api.specs.Meaning.{Meaning}
+use Rattle.world_api.specs.Printed.{SinkMeaning}
 use Rattle.world_api.specs.declared.hash.Hash.{Hash}
 use Rattle.rule_graph.specs.Graphs.{RuleGraph}
 use Rattle.rule_graph.specs.Rules.{are_below}
@@ -19,10 +20,13 @@ use Rattle.run_means.proofs.Keeping.{begin, did}
 use Rattle.turn_means.specs.Standing.{Outset}
 use Rattle.build_run.specs.Along.{is_faulted}
 use Rattle.build_run.specs.Ledgers.{Ledger, ledger_of, blank}
-use Rattle.build_run.specs.Outsets.{wanted_of, BuildRuns, BuildSucceeds, HasMade, HasSetOut, IsBlank, IsReadyFor, Leaves, MakesAll, SetsOut, SetsOutBehind, StandFor, StaysKept}
+use Rattle.build_run.specs.Output.{BuildPrints, MakesPrinted}
+use Rattle.build_run.specs.Outsets.{wanted_of, BuildRuns, BuildSucceeds, HasMade, HasRun, HasSetOut, IsBlank, IsReadyFor, Leaves, MakesAll, SetsOut, SetsOutBehind, StandFor, StaysKept}
 use Rattle.build_run.specs.Safe.{HasOutset}
 use Rattle.build_run.specs.Takes.{IsLeftAt}
 use Rattle.build_run.specs.declared.account.Account.{Account}
+use Rattle.build_run.proofs.BuildPrinting.{none_printed}
+use Rattle.build_run.proofs.StepTexts.{steps_printed}
 use Rattle.build_run.proofs.EndingOn.{not_before}
 use Rattle.build_run.specs.declared.building.Options.{Options}
 use Rattle.build_run.specs.declared.end.BuildEnd.{BuildEnd}
@@ -94,8 +98,9 @@ module _ {W : Type 0} (m : Meaning W) (g : RuleGraph) (requested : List NodeId) 
           HasMade (o (told tells) below) (m.around c) after (map_of last)
       made tells sure below = makes tells sure (o (told tells) below) (ready (told tells) below)
 
-      pub build_ran : (answer : BuildEnd) → answer.is_ended ≡ after.is_ended → BuildRuns m w (map_of store) a c (map_of last) answer
-      build_ran answer same = λ tells sure below. record {
+      abbrev has_run : (answer : BuildEnd) → answer.is_ended ≡ after.is_ended → m.tells c → m.sure c → are_below (length g.nodes) requested ≡ true →
+          HasRun m w (map_of store) a c (map_of last) answer.is_ended
+      has_run answer same tells sure below = record {
         left = (has (told tells) below).left;
         kept = map_of mid;
         rest = (has (told tells) below).rest;
@@ -103,6 +108,22 @@ module _ {W : Type 0} (m : Meaning W) (g : RuleGraph) (requested : List NodeId) 
         records = λ calm. (made tells sure below).records (not_true after.is_store_shut (λ e. calm (rose e)));
         rests = λ e. (made tells sure below).rests (sym same ∙ e);
         stored = λ e. stands tells ((made tells sure below).unshut (sym same ∙ e));
+      }
+
+      pub build_ran : (answer : BuildEnd) → answer.is_ended ≡ after.is_ended → BuildRuns m w (map_of store) a c (map_of last) answer
+      build_ran answer same = λ tells sure below. has_run answer same tells sure below
+
+      -- and what it printed
+      pub build_printed : {O : Type 0} (p : SinkMeaning O) (out new_out : O) → MakesPrinted m p h run mid b account options out c new_out →
+          (answer : BuildEnd) → answer.is_ended ≡ after.is_ended → BuildPrints m p w (map_of store) options a out c new_out (map_of last) answer
+      build_printed p out new_out prints answer same = record {
+        told = prints.told;
+        prints = λ tells sure shows below. record {
+          ran = has_run answer same tells sure below;
+          printed = prints.prints tells sure shows (o (told tells) below) (ready (told tells) below);
+          steps = steps_printed p (o (told tells) below) (ready (told tells) below).outset options (m.around c) out new_out (made tells sure below).runs
+              (prints.prints tells sure shows (o (told tells) below) (ready (told tells) below));
+        };
       }
 
       pub build_succeeded : (answer : BuildEnd) → (answer.faults ≡ [] → answer.memory ≡ false → is_faulted after ≡ false) →
@@ -121,9 +142,9 @@ module _ {W : Type 0} (m : Meaning W) (g : RuleGraph) (requested : List NodeId) 
           }
 
   -- or nothing is made
-  pub build_refused : (m.tells c → m.tells a) → Leaves m a store c mid (IsLeftAt g (m.around a) (map_of store)) → (answer : BuildEnd) →
-      answer.is_ended ≡ true → BuildRuns m w (map_of store) a c (map_of mid) answer
-  build_refused back leaves answer ended = λ tells sure below.
+  abbrev has_refused : (m.tells c → m.tells a) → Leaves m a store c mid (IsLeftAt g (m.around a) (map_of store)) → (answer : BuildEnd) →
+      answer.is_ended ≡ true → m.tells c → HasRun m w (map_of store) a c (map_of mid) answer.is_ended
+  has_refused back leaves answer ended tells =
       let left = leaves tells (rest (back tells)) in
       let none = left.running ∙ rest (back tells) in
       let ran = did w (map_of mid) (m.counts a) (m.around c) (m.around c) [] [] read (begin w (map_of mid) (m.counts a) (m.around c) none) in
@@ -138,6 +159,27 @@ module _ {W : Type 0} (m : Meaning W) (g : RuleGraph) (requested : List NodeId) 
         rests = λ e. true_false (sym ended ∙ e);
         stored = λ e. true_false (sym ended ∙ e);
       }
+
+  pub build_refused : (m.tells c → m.tells a) → Leaves m a store c mid (IsLeftAt g (m.around a) (map_of store)) → (answer : BuildEnd) →
+      answer.is_ended ≡ true → BuildRuns m w (map_of store) a c (map_of mid) answer
+  build_refused back leaves answer ended = λ tells sure below. has_refused back leaves answer ended tells
+
+  -- and printed
+  abbrev begun_here : m.tells c → are_below (length g.nodes) requested ≡ true → Outset
+  begun_here tells below = record { wanted = w; kept = map_of mid; counts = m.counts a; before = m.around c }
+
+  pub build_silent : {O : Type 0} (p : SinkMeaning O) (out : O) → (m.tells c → m.tells a) →
+      Leaves m a store c mid (IsLeftAt g (m.around a) (map_of store)) → (answer : BuildEnd) → answer.is_ended ≡ true →
+      BuildPrints m p w (map_of store) options a out c out (map_of mid) answer
+  build_silent p out back leaves answer ended = record {
+    told = λ t. t;
+    prints = λ tells sure shows below. record {
+      ran = has_refused back leaves answer ended tells;
+      printed = none_printed p (begun_here tells below) options (m.around c) out refl;
+      steps = steps_printed p (begun_here tells below) (record { reading = read; below = below }) options (m.around c) out out
+          (has_refused back leaves answer ended tells).runs (none_printed p (begun_here tells below) options (m.around c) out refl);
+    };
+  }
 
   pub refused_untold : (after : Account) → is_faulted after ≡ true → (answer : BuildEnd) →
       (answer.faults ≡ [] → answer.memory ≡ false → is_faulted after ≡ false) → BuildSucceeds m w (map_of store) a c (map_of mid) answer

@@ -228,7 +228,7 @@ module _ (o : Outset) (outset : IsOutset o) (jobs : List Given) (s : Standing) (
     targets_idle path m = target_free path (among_same own_targets m)
 
     -- what is held was made by others
-    held_apart : (held : List Busy) → HeldBegan o past held → (path : Path) → Among path r.targets → (busy : Busy) → Contains held busy →
+    pub held_apart : (held : List Busy) → HeldBegan o past held → (path : Path) → Among path r.targets → (busy : Busy) → Contains held busy →
         Contains busy.hold.targets path → ⊥
     held_apart held has path m busy h made =
         let one = has busy path h made in

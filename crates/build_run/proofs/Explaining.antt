@@ -183,3 +183,32 @@ pub tells_reason : LeastIsReason → (g : RuleGraph) (options : Options) (number
 tells_reason law g options number kept now around text why = λ b r x grown is at told are due.
     reasoned law r x (always_of b g grown number x r at is) kept now around are due text
     (subst (λ (t : Bool). IsWhyBy t x kept now around text) told (why x at))
+
+-- ---- a look leaves what a line says
+
+module _ (old new : Around) (kept : Map) (now : Rec) (idle : AreIdle old now.targets) (asks : Asks old new) where
+  line_after : (x : Rule) (text : List ℕ) → IsLine x kept now old text → IsLine x kept now new text
+  line_after x text line = record {
+    reason = line.reason;
+    is = record {
+      answers = line.is.answers;
+      are = record {
+        as_many = line.is.are.as_many;
+        each = λ place p answer there e.
+            subst (λ (b : Bool). IsReason x.decider x.always now place b (first_stamp (stamp_of new) now.targets) (kept p) answer)
+            (sym (ap is_some (asks.files p (idle p (at_place now.targets place there)))))
+            (subst (λ (t : Option ℕ). IsReason x.decider x.always now place (is_some (old.tree p)) t (kept p) answer)
+            (sym (first_same old new now.targets idle asks)) (line.is.are.each place p answer there e));
+      };
+      least = line.is.least;
+    };
+    line = line.line;
+  }
+
+  pub why_after : (g : RuleGraph) (options : Options) (number : ℕ) (text : List ℕ) → IsWhyText g options number kept now old text →
+      IsWhyText g options number kept now new text
+  why_after g options number text why = λ x at. by x (is_told options x) (why x at)
+    where
+      by : (x : Rule) (told : Bool) → IsWhyBy told x kept now old text → IsWhyBy told x kept now new text
+      by x true line = line_after x text line
+      by x false none = none

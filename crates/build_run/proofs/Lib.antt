@@ -29,3 +29,11 @@ pub mod Deciding
 mod Stopped
 pub mod Reasons
 mod Explaining
+mod Valid
+mod Texts
+mod Printing
+mod Reasoned
+mod StartPrinting
+mod BuildPrinting
+mod Reporting
+mod StepTexts

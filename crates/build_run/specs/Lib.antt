@@ -5,6 +5,9 @@ pub mod Goings
 pub mod Holds
 pub mod Ledgers
 pub mod Outs
+pub mod FaultTexts
+pub mod StartTexts
+pub mod Output
 pub mod Outsets
 pub mod Reasons
 pub mod Safe

@@ -24,14 +24,16 @@ pub(crate) struct Account {
 }
 
 impl Account {
-    ghost use Rattle.std.specs.Prelude.{◌≡◌, true, false};
+    ghost use Rattle.std.specs.Prelude.{◌≡◌, true, false, string_bytes};
     ghost use Rattle.build_run.specs.Along.{is_faulted, IsEnd, KeepsEnds};
+    ghost use Rattle.build_run.specs.FaultTexts.{KeepsFault, KeepsTold, SameTold, Shows, ShowsIf};
     ghost use Rattle.build_run.specs.Ledgers.{ledger_of, blank, wanting, with_fault, with_end, Keeps, Reports};
     ghost use Rattle.build_run.specs.Reasons.{IsLast, IsLastEnd, IsReasoned, KeepsReason, StaysReasoned};
 
     pub(crate) fn new(alloc: Global) -> Account
         ensures ledger { ledger_of result ≡ blank }
         ensures ended { result.is_ended ≡ false }
+        ensures unshut { result.is_err_shut ≡ false }
     {
         Account {
             faults: Vec::new(alloc),
@@ -52,6 +54,7 @@ impl Account {
         ensures ends { IsEnd self.new }
         ensures memory { end ≡ ListEnd.Memory → self.new.memory ≡ true }
         ensures reason { IsLastEnd end → IsReasoned self.new }
+        ensures texts { KeepsTold E.meaning err.old self.old err.new self.new }
     {
         self.is_ended = true;
         match end {
@@ -73,6 +76,7 @@ impl Account {
         ensures faulted { is_faulted self.new ≡ true }
         ensures goes { self.new.is_ended ≡ false → goes_on ≡ true }
         ensures reason { KeepsReason goes_on self.old self.new }
+        ensures texts { KeepsTold E.meaning err.old self.old err.new self.new }
     {
         self.report(err, fault);
         self.note_faulty(rule);
@@ -85,6 +89,7 @@ impl Account {
         ensures ends { KeepsEnds self.old self.new }
         ensures faulted { is_faulted self.new ≡ true }
         ensures reason { StaysReasoned self.old self.new }
+        ensures texts { KeepsTold E.meaning err.old self.old err.new self.new }
         ensures last { IsLast fault → IsReasoned self.new }
     {
         let text = fault_text(self.alloc, &fault);
@@ -97,6 +102,7 @@ impl Account {
         ensures reports { Reports E.meaning err.old self.old (ledger_of self.old) err.new self.new }
         ensures ends { KeepsEnds self.old self.new }
         ensures reason { StaysReasoned self.old self.new }
+        ensures shows { ShowsIf E.meaning err.old self.old (λ s. string_bytes s) text err.new self.new }
     {
         if self.is_err_shut {
             return;
@@ -112,6 +118,7 @@ impl Account {
         ensures reports { Reports E.meaning err.old self.old (ledger_of self.old) err.new self.new }
         ensures ends { KeepsEnds self.old self.new }
         ensures reason { StaysReasoned self.old self.new }
+        ensures shows { self.old.is_err_shut ≡ false → Shows E.meaning err.old self.old text.now err.new self.new }
     {
         match print(err, text) {
             Ok(()) => {}
@@ -128,6 +135,7 @@ impl Account {
         ensures ends { KeepsEnds self.old self.new }
         ensures faulted { is_faulted self.new ≡ true }
         ensures reason { StaysReasoned self.old self.new }
+        ensures kept { KeepsFault self.old fault self.new }
         ensures last { IsLast fault → IsReasoned self.new }
     {
         match self.faults.push(fault) {
@@ -141,6 +149,7 @@ impl Account {
         ensures ends { IsEnd self.new }
         ensures memory { self.new.memory ≡ true }
         ensures reason { IsReasoned self.new }
+        ensures same { SameTold self.old self.new }
     {
         self.memory = true;
         self.is_ended = true;
@@ -150,6 +159,7 @@ impl Account {
         ensures keeps { Keeps self.old (ledger_of self.old) self.new }
         ensures ends { KeepsEnds self.old self.new }
         ensures reason { StaysReasoned self.old self.new }
+        ensures same { SameTold self.old self.new }
     {
         match self.faulty.push(rule) {
             Ok(()) => {}
@@ -161,6 +171,7 @@ impl Account {
         ensures keeps { Keeps self.old (ledger_of self.old) self.new }
         ensures ends { KeepsEnds self.old self.new }
         ensures reason { StaysReasoned self.old self.new }
+        ensures same { SameTold self.old self.new }
     {
         match self.started.push(rule) {
             Ok(()) => {}

@@ -8,8 +8,10 @@ ghost use Rattle.task_plan.specs.Cycles.{HasNoCycle};
 ghost use Rattle.build_files.specs.Causes.{HasLookCause, IsQuiet};
 ghost use Rattle.build_run.specs.Along.{is_faulted, KeepsEnds};
 ghost use Rattle.build_run.specs.Causes.{BuildCauses, IsInner};
+ghost use Rattle.build_run.specs.FaultTexts.{BuildTells, KeepsTold, SiteKeepsTold};
 ghost use Rattle.build_run.specs.Goings.{Goes, Passes, Stays};
 ghost use Rattle.build_run.specs.Ledgers.{ledger_of, AllAccounts, Reports};
+ghost use Rattle.build_run.specs.Output.{BuildPrints, MakesPrinted};
 ghost use Rattle.build_run.specs.Outsets.{wanted_of, BuildRuns, BuildSucceeds, FinishesWell, LeavesCopies, MakesAll, SetsOut, SetsOutBehind, StaysKept};
 ghost use Rattle.build_run.specs.Reasons.{EndsForReason, KeepsReason, SiteKeepsReason, StaysReasoned};
 ghost use Rattle.build_run.specs.Safe.{BuildsSafely, GoesSafely, MakesSafely};
@@ -81,6 +83,9 @@ pub fn build<W: World, O: Sink, E: Sink>(
     ensures succeeds { BuildSucceeds W.meaning (wanted_of graph.old requested.now options.now) (map_of store.old) world.old world.new (map_of store.new) result }
     ensures safe { BuildsSafely W.meaning (wanted_of graph.old requested.now options.now) world.old world.new }
     ensures ends { EndsForReason options.now result }
+    ensures tells { BuildTells E.meaning err.old err.new result }
+    ensures prints { BuildPrints W.meaning O.meaning (wanted_of graph.old requested.now options.now) (map_of store.old) options.now world.old out.old
+        world.new out.new (map_of store.new) result }
 {
     graph.laws();
     let mut account = Account::new(alloc);
@@ -184,6 +189,8 @@ fn make_all<W: World, O: Sink, E: Sink>(
     ensures makes { MakesAll W.meaning graph.old run.old store.old world.old account.old options world.new account.new store.new }
     ensures safe { MakesSafely W.meaning graph.old run.old store.old world.old account.old options world.new }
     ensures reason { KeepsReason options.keep account.old account.new }
+    ensures texts { KeepsTold E.meaning err.old account.old err.new account.new }
+    ensures prints { MakesPrinted W.meaning O.meaning graph.old run.old store.old world.old account.old options out.old world.new out.new }
 {
     finished_succeed();
     let mut site = Site {
@@ -207,10 +214,12 @@ impl<W: World, O: Sink, E: Sink> Site<'_, '_, W, O, E> {
         ensures world { self.new.world.now ≡ self.old.world.now }
         ensures store { self.new.store.now ≡ self.old.store.now }
         ensures shut { self.new.account.now.is_store_shut ≡ self.old.account.now.is_store_shut }
+        ensures out { self.new.out.now ≡ self.old.out.now }
         ensures accounts { SiteAccounts W.meaning O.meaning E.meaning self.old self.new }
         ensures ends { KeepsEnds self.old.account.now self.new.account.now }
         ensures finishes { FinishesWell self.old.graph.now self.old.run.now.plan self.old.account.now self.new.account.now }
         ensures reason { SiteKeepsReason self.old self.new }
+        ensures texts { SiteKeepsTold E.meaning self.old self.new }
     {
         tell_cycle(self.graph, &self.run.plan, self.account, self.err);
         match skipped(self.graph, &self.run.plan, self.account) {
@@ -229,6 +238,7 @@ fn tell_cycle<E: Sink>(graph: &Graph, plan: &Plan, account: &mut Account, err: &
     ensures ends { KeepsEnds account.old account.new }
     ensures finishes { FinishesWell graph.now plan.now account.old account.new }
     ensures reason { StaysReasoned account.old account.new }
+    ensures texts { KeepsTold E.meaning err.old account.old err.new account.new }
 {
     plan.finishes(graph);
     if account.is_ended {

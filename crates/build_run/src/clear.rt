@@ -2,6 +2,7 @@
 ghost use Rattle.std.specs.Prelude.{◌≡◌, ◌∷◌, [], None, true, Contains, OnOk, OnErr};
 ghost use Rattle.build_run.specs.Along.{KeepsKnown, SameEnds};
 ghost use Rattle.build_run.specs.Books.{RefusesSo};
+ghost use Rattle.build_run.specs.FaultTexts.{SameTold};
 ghost use Rattle.build_run.specs.Goings.{ClearsAt, Stays, Leaves, AreGone, AreUnused};
 ghost use Rattle.build_files.specs.Causes.{HasLookCause};
 ghost use Rattle.build_run.specs.Outs.{IsTicketFor, KeepsSome};
@@ -42,6 +43,7 @@ impl<W: World, O: Sink, E: Sink> Site<'_, '_, W, O, E> {
         ensures refused { RefusesSo W.meaning job.now.targets self.old self.new result }
         ensures safe { SiteGoesSafely W.meaning self.old self.new }
         ensures reason { SiteKeepsReason self.old self.new }
+        ensures texts { SameTold self.old.account.now self.new.account.now }
         ensures last { EndsLast result }
     {
         let targets = job.targets.as_slice();
@@ -71,6 +73,7 @@ impl<W: World, O: Sink, E: Sink> Site<'_, '_, W, O, E> {
         ensures shut { OnErr result (self.new.account.now.is_store_shut ≡ true) }
         ensures safe { SiteGoesSafely W.meaning self.old self.new }
         ensures reason { SiteKeepsReason self.old self.new }
+        ensures texts { SameTold self.old.account.now self.new.account.now }
         ensures last { EndsLast result }
     {
         if !self.store.has_record(ticket) {

@@ -3,8 +3,10 @@ ghost use Rattle.std.specs.Prelude.{◌≡◌, ◌≤◌, ◌<◌, [], length, I
 ghost use Rattle.build_files.specs.Causes.{HasLookCause, IsQuiet};
 ghost use Rattle.build_run.specs.Causes.{IsInner};
 ghost use Rattle.build_run.specs.Along.{GoesAlong, MakesAlong, Presents};
+ghost use Rattle.build_run.specs.FaultTexts.{SiteKeepsTold};
 ghost use Rattle.build_run.specs.Goings.{Stays};
 ghost use Rattle.world_api.specs.Looks.{Looks};
+ghost use Rattle.build_run.specs.Output.{MakesPrinting, TurnsPrinting};
 ghost use Rattle.build_run.specs.Reasons.{EndsLast, SiteKeepsReason};
 ghost use Rattle.build_run.specs.Safe.{StartsSafely, TurnsSafelyAs};
 ghost use Rattle.build_run.specs.Shown.{ShowsMade};
@@ -32,8 +34,10 @@ impl<W: World, O: Sink, E: Sink> Site<'_, '_, W, O, E> {
         ensures few { length self.new.run.now.held ≤ length self.old.run.now.held }
         ensures kept { KeepsHeld self.old self.new }
         ensures along { GoesAlong W.meaning self.old self.new (Want.Decide rule) result }
+        ensures printing { TurnsPrinting W.meaning O.meaning self.old self.new (Want.Decide rule) result }
         ensures safe { TurnsSafelyAs W.meaning self.old self.new (Want.Decide rule) }
         ensures reason { SiteKeepsReason self.old self.new }
+        ensures texts { SiteKeepsTold E.meaning self.old self.new }
         ensures last { EndsLast result }
     {
         match present(self.run, self.world, self.graph, rule)? {
@@ -57,8 +61,10 @@ impl<W: World, O: Sink, E: Sink> Site<'_, '_, W, O, E> {
         ensures few { length self.new.run.now.held ≤ length self.old.run.now.held }
         ensures kept { KeepsHeld self.old self.new }
         ensures along { MakesAlong W.meaning self.old self.new rule now result }
+        ensures printing { MakesPrinting W.meaning O.meaning self.old self.new rule now result }
         ensures safe { StartsSafely W.meaning self.old self.new now }
         ensures reason { SiteKeepsReason self.old self.new }
+        ensures texts { SiteKeepsTold E.meaning self.old self.new }
         ensures last { EndsLast result }
         ensures shows { ShowsMade W.meaning O.meaning self.old self.new rule now result }
     {

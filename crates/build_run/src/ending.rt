@@ -1,9 +1,11 @@
 //! What follows from the ending of an action.
 ghost use Rattle.std.specs.Prelude.{◌≡◌, ◌<◌, ◌+◌, ◌++◌, ◌∷◌, [], List, ℕ, length, true};
 ghost use Rattle.build_run.specs.Along.{is_faulted, EndsAlong, GoesOnAfter, HoldsFewer, KeepsEnds, KeepsKnown, StandsPut, TakesAlong};
+ghost use Rattle.build_run.specs.FaultTexts.{KeepsTold, SiteKeepsTold};
 ghost use Rattle.build_run.specs.Goings.{Passes, IsJoined};
 ghost use Rattle.build_run.specs.Holds.{holds_in, without};
 ghost use Rattle.build_run.specs.Ledgers.{ledger_of, with_outcome, Reports};
+ghost use Rattle.build_run.specs.Output.{IsQuiet};
 ghost use Rattle.build_run.specs.Outs.{LogsEnding};
 ghost use Rattle.build_run.specs.Reasons.{KeepsReason, SiteKeepsReason};
 ghost use Rattle.build_run.specs.Safe.{GoesSafely, HoldsSafely, SiteGoesSafely};
@@ -36,9 +38,11 @@ impl<W: World, O: Sink, E: Sink> Site<'_, '_, W, O, E> {
         ensures sound { IsSound W.meaning self.new }
         ensures takes { TakesEnding W.meaning self.old self.new result }
         ensures along { EndsAlong W.meaning self.old self.new result }
+        ensures quiet { IsQuiet W.meaning self.old self.new }
         ensures halted { self.new.run.now.plan ≡ self.old.run.now.plan }
         ensures safe { SiteGoesSafely W.meaning self.old self.new }
         ensures reason { SiteKeepsReason self.old self.new }
+        ensures texts { SiteKeepsTold E.meaning self.old self.new }
     {
         self.put_if_few();
         self.take_ended()
@@ -58,6 +62,7 @@ impl<W: World, O: Sink, E: Sink> Site<'_, '_, W, O, E> {
         ensures stands { StandsPut W.meaning self.old self.new }
         ensures safe { SiteGoesSafely W.meaning self.old self.new }
         ensures reason { SiteKeepsReason self.old self.new }
+        ensures texts { SiteKeepsTold E.meaning self.old self.new }
     {
         if self.run.tickets.len() >= self.options.most_jobs() {
             return;
@@ -76,9 +81,11 @@ impl<W: World, O: Sink, E: Sink> Site<'_, '_, W, O, E> {
         ensures sound { IsSound W.meaning self.new }
         ensures takes { TakesEnding W.meaning self.old self.new result }
         ensures along { TakesAlong W.meaning self.old self.new result }
+        ensures quiet { IsQuiet W.meaning self.old self.new }
         ensures halted { self.new.run.now.plan ≡ self.old.run.now.plan }
         ensures safe { SiteGoesSafely W.meaning self.old self.new }
         ensures reason { SiteKeepsReason self.old self.new }
+        ensures texts { SiteKeepsTold E.meaning self.old self.new }
     {
         let ended = wait(self.world, self.run, &self.options);
         let Some(busy) = self.run.tickets.take(ended.id) else {
@@ -120,6 +127,7 @@ impl<W: World, O: Sink, E: Sink> Site<'_, '_, W, O, E> {
         ensures stands { StandsPut W.meaning self.old self.new }
         ensures safe { HoldsSafely W.meaning busy self.old self.new }
         ensures reason { SiteKeepsReason self.old self.new }
+        ensures texts { SiteKeepsTold E.meaning self.old self.new }
     {
         let Ticketed { hold, ticket } = busy;
         self.run.held.add(hold, ticket);
@@ -143,6 +151,7 @@ impl<W: World, O: Sink, E: Sink> Site<'_, '_, W, O, E> {
         ensures stands { StandsPut W.meaning self.old self.new }
         ensures safe { SiteGoesSafely W.meaning self.old self.new }
         ensures reason { SiteKeepsReason self.old self.new }
+        ensures texts { SiteKeepsTold E.meaning self.old self.new }
     {
         if self.account.is_store_shut {
             self.run.held.clear();
@@ -192,6 +201,7 @@ fn not_done<E: Sink>(
     ensures reports { (target : List ℕ)
         × Reports E.meaning err.old account.old (with_outcome (ledger_of account.old) target outcome) err.new account.new }
     ensures reason { KeepsReason options.now.keep account.old account.new }
+    ensures texts { KeepsTold E.meaning err.old account.old err.new account.new }
 {
     let Ok(target) = first_target(graph, rule) else {
         account.want_memory();

@@ -3,11 +3,13 @@ ghost use Rattle.std.specs.Prelude.{◌≡◌, ◌≤◌, ◌++◌, ◌∷◌, [
 ghost use Rattle.build_run.specs.Causes.{HasPrintCause, HasStartCause, IsUnstarted};
 ghost use Rattle.build_run.specs.Along.{IsWellStill, KeepsKnown, SameEnds};
 ghost use Rattle.build_run.specs.Books.{RefusesSo};
+ghost use Rattle.build_run.specs.FaultTexts.{SameTold, SiteKeepsTold};
 ghost use Rattle.build_run.specs.Goings.{Passes, ClearsAt, LaunchesAt, IsJoined, AreAbsent};
 ghost use Rattle.world_api.specs.Laws.{StartsJob};
-ghost use Rattle.world_api.specs.Printing.{Prints};
+ghost use Rattle.world_api.specs.Printing.{Cuts, Prints};
 ghost use Rattle.build_run.specs.Ledgers.{ledger_of};
 ghost use Rattle.build_run.specs.Holds.{Busy, hold_for, holds_in, KeepsApart};
+ghost use Rattle.build_run.specs.Output.{PrintsLast};
 ghost use Rattle.build_run.specs.Outs.{IsTicketFor, KeepsSome, ShareNone};
 ghost use Rattle.build_run.specs.Reasons.{EndsLast, SiteKeepsReason, StaysReasoned};
 ghost use Rattle.build_run.specs.Safe.{GoesSafely, SiteGoesSafely};
@@ -48,8 +50,10 @@ impl<W: World, O: Sink, E: Sink> Site<'_, '_, W, O, E> {
         ensures refused { RefusesSo W.meaning job.targets self.old self.new result }
         ensures safe { SiteGoesSafely W.meaning self.old self.new }
         ensures reason { SiteKeepsReason self.old self.new }
+        ensures texts { SiteKeepsTold E.meaning self.old self.new }
         ensures last { EndsLast result }
         ensures prints { OnOk result (Prints O.meaning self.old.out.now self.new.out.now text.now) }
+        ensures cuts { OnErr result (PrintsLast O.meaning self.old.out.now self.new.out.now text.now) }
     {
         self.clear(&job, ticket)?;
         show(self.account, self.out, text)?;
@@ -63,7 +67,9 @@ fn show<O: Sink>(account: &mut Account, out: &mut O, text: &str) -> Result<(), L
     ensures ended { account.new.is_ended ≡ account.old.is_ended }
     ensures cause { HasPrintCause (O.meaning.faults out.old) (O.meaning.faults out.new) result }
     ensures reason { StaysReasoned account.old account.new }
+    ensures texts { SameTold account.old account.new }
     ensures prints { OnOk result (Prints O.meaning out.old out.new text.now) }
+    ensures cuts { OnErr result (Cuts O.meaning out.old out.new text.now) }
 {
     match print(out, text) {
         Ok(()) => Ok(()),

@@ -3,6 +3,8 @@ ghost use Rattle.std.specs.Prelude.{◌≡◌, ◌<◌, ◌≤◌, [], length, t
 ghost use Rattle.rule_graph.specs.declared.rule.Rule.{Rule as DeclaredRule};
 ghost use Rattle.build_files.specs.Causes.{IsQuiet};
 ghost use Rattle.build_run.specs.Along.{StartsAlong};
+ghost use Rattle.build_run.specs.Output.{StartsPrinting};
+ghost use Rattle.build_run.specs.FaultTexts.{SiteKeepsTold};
 ghost use Rattle.build_run.specs.Reasons.{EndsLast, SiteKeepsReason};
 ghost use Rattle.build_run.specs.Safe.{StartsSafely};
 ghost use Rattle.build_run.specs.Sites.{IsSound, KeepsHeld, SiteEnds, SitePasses};
@@ -42,8 +44,10 @@ impl<W: World, O: Sink, E: Sink> Site<'_, '_, W, O, E> {
         ensures along { StartsAlong W.meaning self.old self.new rule now result }
         ensures safe { StartsSafely W.meaning self.old self.new now }
         ensures reason { SiteKeepsReason self.old self.new }
+        ensures texts { SiteKeepsTold E.meaning self.old self.new }
         ensures last { EndsLast result }
         ensures prints { OnOk result (PrintsStart O.meaning self.old self.new rule (string_bytes why)) }
+        ensures printing { StartsPrinting W.meaning O.meaning self.old self.new rule now (string_bytes why) result }
     {
         if self.account.is_store_shut {
             return Err(ListEnd::Fault(BuildFault::StoreFault));

@@ -1,8 +1,10 @@
 //! The turns of a build: what the plan wants is done, and the plan is told what came of it.
-ghost use Rattle.std.specs.Prelude.{◌≡◌, ◌≢◌, ◌⊎◌, ◌≤◌, ◌<◌, [], true, false, length, Err};
+ghost use Rattle.std.specs.Prelude.{◌≡◌, ◌≢◌, ◌⊎◌, ◌≤◌, ◌<◌, [], true, false, length, Err, OnErr};
 ghost use Rattle.build_run.specs.Along.{ComesOn, GoesAlong, IsReliable, IsSpent, IsWantedOf, RestsAlong, StaysAlong, StepsOr, Tells, TellsAlong};
+ghost use Rattle.build_run.specs.FaultTexts.{KeepsTold, SameTold, SiteKeepsTold};
 ghost use Rattle.build_run.specs.Outsets.{StaysKept};
 ghost use Rattle.build_run.specs.Ledgers.{ledger_of, with_done, Accounts, Keeps, Reports};
+ghost use Rattle.build_run.specs.Output.{IsQuiet, PrintsAlong, TurnsPrinting};
 ghost use Rattle.build_run.specs.Reasons.{EndsLast, SiteKeepsReason, StaysReasoned};
 ghost use Rattle.build_run.specs.Safe.{SiteGoesSafely, TurnsSafely, TurnsSafelyAs};
 ghost use Rattle.build_run.specs.Sites.{IsSound, SiteAccounts, SiteEnds, SitePasses, most_jobs, outside_of};
@@ -29,9 +31,11 @@ impl<W: World, O: Sink, E: Sink> Site<'_, '_, W, O, E> {
         ensures stored { StaysKept W.meaning self.new.world.now self.new.store.now self.new.account.now }
         ensures idle { W.meaning.tells self.new.world.now → (W.meaning.around self.new.world.now).running ≡ [] }
         ensures on { ComesOn W.meaning self.old self.new }
+        ensures printing { PrintsAlong W.meaning O.meaning self.old self.new }
         ensures still { RestsAlong W.meaning self.old self.new }
         ensures safe { TurnsSafely W.meaning self.old self.new }
         ensures reason { SiteKeepsReason self.old self.new }
+        ensures texts { SiteKeepsTold E.meaning self.old self.new }
     {
         self.take_turns();
         self.wait_for_all();
@@ -49,8 +53,10 @@ impl<W: World, O: Sink, E: Sink> Site<'_, '_, W, O, E> {
         ensures along { StaysAlong W.meaning self.old self.new }
         ensures still { RestsAlong W.meaning self.old self.new }
         ensures halts { IsSpent self.new }
+        ensures printing { PrintsAlong W.meaning O.meaning self.old self.new }
         ensures safe { TurnsSafely W.meaning self.old self.new }
         ensures reason { SiteKeepsReason self.old self.new }
+        ensures texts { SiteKeepsTold E.meaning self.old self.new }
     {
         for _turn in 0..u64::MAX {
             let wanted = want(self.run, &self.options);
@@ -71,10 +77,12 @@ impl<W: World, O: Sink, E: Sink> Site<'_, '_, W, O, E> {
         ensures sound { IsSound W.meaning self.new }
         ensures idle { W.meaning.tells self.new.world.now → (W.meaning.around self.new.world.now).running ≡ [] }
         ensures along { IsSpent self.old → StaysAlong W.meaning self.old self.new }
+        ensures quiet { IsQuiet W.meaning self.old self.new }
         ensures none { length self.old.run.now.tickets ≡ 0 → self.new ≡ self.old }
         ensures halted { self.old.run.now.plan.halted ≡ true → self.new.run.now.plan.halted ≡ true }
         ensures safe { SiteGoesSafely W.meaning self.old self.new }
         ensures reason { SiteKeepsReason self.old self.new }
+        ensures texts { SiteKeepsTold E.meaning self.old self.new }
     {
         let running = self.run.tickets.len();
         for _turn in 0..running {
@@ -94,11 +102,15 @@ impl<W: World, O: Sink, E: Sink> Site<'_, '_, W, O, E> {
         ensures sound { IsSound W.meaning self.old → IsSound W.meaning self.new }
         ensures tickets { self.new.run.now.tickets ≡ self.old.run.now.tickets }
         ensures along { TellsAlong W.meaning self.old self.new done }
+        ensures quiet { IsQuiet W.meaning self.old self.new }
+        ensures still { self.new.world.now ≡ self.old.world.now }
+        ensures ends { OnErr done (self.new.account.now.is_ended ≡ true) }
         ensures halted { self.old.run.now.plan.halted ≡ true → self.new.run.now.plan.halted ≡ true }
         ensures memory { done ≡ Err ListEnd.Memory → self.new.account.now.memory ≡ true }
         ensures halts { done ≡ Err ListEnd.Memory → self.new.run.now.plan.halted ≡ true }
         ensures safe { SiteGoesSafely W.meaning self.old self.new }
         ensures reason { EndsLast done → SiteKeepsReason self.old self.new }
+        ensures texts { SiteKeepsTold E.meaning self.old self.new }
     {
         tell(self.graph, &mut self.run.plan, self.account, self.err, done);
         halt(self.graph, &mut self.run.plan, self.account);
@@ -112,9 +124,11 @@ impl<W: World, O: Sink, E: Sink> Site<'_, '_, W, O, E> {
         ensures passes { SitePasses W.meaning self.old self.new }
         ensures ends { SiteEnds W.meaning O.meaning E.meaning self.old self.new result }
         ensures along { GoesAlong W.meaning self.old self.new wanted result }
+        ensures printing { TurnsPrinting W.meaning O.meaning self.old self.new wanted result }
         ensures safe { TurnsSafelyAs W.meaning self.old self.new wanted }
         ensures sound { IsSound W.meaning self.new }
         ensures reason { SiteKeepsReason self.old self.new }
+        ensures texts { SiteKeepsTold E.meaning self.old self.new }
         ensures last { EndsLast result }
     {
         match wanted {
@@ -131,8 +145,10 @@ impl<W: World, O: Sink, E: Sink> Site<'_, '_, W, O, E> {
         ensures ends { SiteEnds W.meaning O.meaning E.meaning self.old self.new result }
         ensures sound { IsSound W.meaning self.old → IsSound W.meaning self.new }
         ensures along { GoesAlong W.meaning self.old self.new (Want.Scan rule file) result }
+        ensures quiet { IsQuiet W.meaning self.old self.new }
         ensures safe { SiteGoesSafely W.meaning self.old self.new }
         ensures reason { SiteKeepsReason self.old self.new }
+        ensures texts { SiteKeepsTold E.meaning self.old self.new }
         ensures last { EndsLast result }
     {
         let found = self.run.inputs.scanned(self.world, self.graph, rule, file)?;
@@ -188,6 +204,7 @@ fn tell<E: Sink>(
     ensures memory { done ≡ Err ListEnd.Memory → account.new.memory ≡ true }
     ensures stays { plan.old.halted ≡ true → plan.new.halted ≡ true }
     ensures reason { EndsLast done → StaysReasoned account.old account.new }
+    ensures texts { KeepsTold E.meaning err.old account.old err.new account.new }
 {
     match done {
         Ok(event) => step(graph, plan, account, event),
@@ -200,6 +217,7 @@ fn step(graph: &Graph, plan: &mut Plan, account: &mut Account, event: PlanEvent)
     ensures steps { StepsOr graph.now plan.old event plan.new account.old account.new }
     ensures stays { plan.old.halted ≡ true → plan.new.halted ≡ true }
     ensures reason { StaysReasoned account.old account.new }
+    ensures texts { SameTold account.old account.new }
 {
     match plan.step(graph, event) {
         Ok(()) => {}

@@ -3,13 +3,15 @@ use Rattle.build_means.specs.Rules.{IsReading}
 use Rattle.build_run.specs.Causes.{outside}
 use Rattle.build_run.specs.Ledgers.{ledger_of, ledger_of_end, blank, with_end}
 use Rattle.build_run.specs.Outsets.{wanted_of}
-use Rattle.build_run.proofs.Builds.{build_ran, build_refused, build_succeeded, has_outset, is_blank, refused_untold}
+use Rattle.build_run.proofs.Builds.{build_printed, build_ran, build_silent, build_refused, build_succeeded, has_outset, is_blank, refused_untold}
 use Rattle.build_run.proofs.Causing.{account_as, at_first, caused, ended, same_counts}
 use Rattle.build_run.proofs.Goings.{passes_on}
 use Rattle.build_run.proofs.Safely.{safe_on}
 use Rattle.build_run.proofs.Stopped.{builds_safely}
 use Rattle.build_run.proofs.Taking.{take_accounted}
 use Rattle.build_run.proofs.Reasons.{answers_so, not_ended}
+use Rattle.build_run.proofs.Reporting.{begins_told, build_tells}
+use Rattle.build_run.specs.Ledgers.{Ledger}
 use Rattle.build_run.proofs.building.build.Goals as goal
 
 pub make_all-skipped-requires : goal.make_all-skipped-requires
@@ -114,3 +116,41 @@ returns-in-Ok-clause-ends g c =
     let a = c.answer.ensures in
     answers_so c.args.options.now c.make_all-skipped.new.account c.answer.result a.faults a.memory a.ended
     (c.make_all-skipped.ensures.reason (λ keep. not_ended c.new-account.result c.new-account.ensures.ended))
+
+pub returns-in-Ok-clause-prints : goal.returns-in-Ok-clause-prints
+returns-in-Ok-clause-prints g c =
+    let start = outside (g.W.Disk.meaning.counts c.args.world.now) (g.O.Sink.meaning.faults c.args.out.now) (g.E.Sink.meaning.faults c.args.err.now) in
+    let first = account_as start start blank (ledger_of c.new-account.result) c.new-account.ensures.ledger (at_first start) in
+    let made = c.make_all-skipped.ensures.accounts start (same_counts start (ledger_of c.new-account.result) _ _ _ _ c.in-Ok.ensures.cause first) in
+    let read : IsReading c.args.graph.now = record { apart = c.laws.ensures.apart; single = c.laws.ensures.single; named = c.laws.ensures.named } in
+    build_printed g.W.Disk.meaning c.args.graph.now c.args.requested.now c.args.options.now read c.args.world.now c.set_out.new.world
+    c.make_all-skipped.new.world c.args.store.now c.set_out.new.store c.requires.idle c.set_out.new.graph c.in-Ok.run' c.new-account.result
+    c.set_out.ensures.goes.passes.told.told c.in-Ok.ensures.cause
+    c.in-Ok.ensures.sets (is_blank c.new-account.result c.new-account.ensures.ledger c.new-account.ensures.ended)
+    c.make_all-skipped.new.account c.make_all-skipped.ensures.passes.told.told
+    c.make_all-skipped.new.store c.make_all-skipped.ensures.makes made.shut c.make_all-skipped.ensures.stored
+    g.O.Sink.meaning c.args.out.now c.make_all-skipped.new.out c.make_all-skipped.ensures.prints c.answer.result c.answer.ensures.ended
+
+pub returns-in-Err-clause-prints : goal.returns-in-Err-clause-prints
+returns-in-Err-clause-prints g c =
+    let read : IsReading c.args.graph.now = record { apart = c.laws.ensures.apart; single = c.laws.ensures.single; named = c.laws.ensures.named } in
+    build_silent g.W.Disk.meaning c.args.graph.now c.args.requested.now c.args.options.now read c.args.world.now c.set_out.new.world
+    c.set_out.new.world c.args.store.now c.set_out.new.store c.requires.idle g.O.Sink.meaning c.args.out.now
+    c.set_out.ensures.goes.passes.told.told c.in-Err.ensures.rest
+    c.answer-in-Err.result (c.answer-in-Err.ensures.ended ∙ c.end.ensures.ends.ended)
+
+pub returns-in-Ok-clause-tells : goal.returns-in-Ok-clause-tells
+returns-in-Ok-clause-tells g c =
+    let e = g.E.Sink.meaning in
+    let new = c.new-account in
+    build_tells e c.args.err.now c.make_all-skipped.new.err c.make_all-skipped.new.account c.answer.result c.answer.ensures.faults c.answer.ensures.memory
+    (c.make_all-skipped.ensures.texts c.args.err.now
+    (begins_told e c.args.err.now new.result (ap (λ (l : Ledger). l.faults) new.ensures.ledger) new.ensures.unshut))
+
+pub returns-in-Err-clause-tells : goal.returns-in-Err-clause-tells
+returns-in-Err-clause-tells g c =
+    let e = g.E.Sink.meaning in
+    let new = c.new-account in
+    build_tells e c.args.err.now c.end.new.err c.end.new.self c.answer-in-Err.result c.answer-in-Err.ensures.faults c.answer-in-Err.ensures.memory
+    (c.end.ensures.texts c.args.err.now
+    (begins_told e c.args.err.now new.result (ap (λ (l : Ledger). l.faults) new.ensures.ledger) new.ensures.unshut))

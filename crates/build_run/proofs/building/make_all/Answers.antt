@@ -1,10 +1,12 @@
 use Rattle.std.proofs.Common.{◌∙◌, ap, rules}
 use Rattle.sign_store.specs.Stores.{map_of}
+use Rattle.build_run.proofs.BuildPrinting.{goes_printed, makes_given}
 use Rattle.build_run.proofs.Finishing.{first_along, has_made, made_given}
 use Rattle.build_run.proofs.Lending.{accounts_given, idle_given, kept_closed, passes_given, stored_given}
 use Rattle.build_run.proofs.Sites.{sound_first}
 use Rattle.build_run.proofs.Stopped.{along_first}
 use Rattle.build_run.proofs.Turning.{first_safe, safe_given}
+use Rattle.build_run.proofs.Reporting.{told_given}
 use Rattle.build_run.proofs.building.make_all.Goals as goal
 
 pub go_on-requires : goal.go_on-requires
@@ -70,3 +72,24 @@ returns-clause-stored g c =
     let lent_store = same.store ∙ passes.store in
     stored_given m c.close.new.self _ c.account-1.given.0 c.store-1.given.0 (search rules) (search rules) (search rules)
     (kept_closed m mid c.close.new.self c.close.ensures.world c.close.ensures.store c.close.ensures.shut c.go_on.ensures.stored)
+
+pub returns-clause-prints : goal.returns-clause-prints
+returns-clause-prints g c =
+    let m = g.W.Disk.meaning in
+    let p = g.O.Sink.meaning in
+    let mid = c.go_on.new.self in
+    let same = c.close.ensures.same in
+    let passes = c.go_on.ensures.passes.same in
+    let lent_world = same.world ∙ passes.world in
+    let lent_out = same.out ∙ passes.out in
+    makes_given m p _ _ _ _ _ _ _ c.close.new.self mid.world.now _ mid.out.now _ (search rules) (search rules) c.close.ensures.world c.close.ensures.out
+    (goes_printed m p _ mid c.requires.held c.requires.none passes.options c.go_on.ensures.printing)
+
+pub returns-clause-texts : goal.returns-clause-texts
+returns-clause-texts g c =
+    let same = c.close.ensures.same in
+    let passes = c.go_on.ensures.passes.same in
+    let lent_err = same.err ∙ passes.err in
+    let lent_account = same.account ∙ passes.account in
+    told_given g.E.Sink.meaning c.close.new.self c.args.err.now c.args.account.now _ c.account-1.given.0 (search rules) (search rules)
+    (λ start has. c.close.ensures.texts start (c.go_on.ensures.texts start has))

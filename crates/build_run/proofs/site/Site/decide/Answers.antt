@@ -10,6 +10,8 @@ use Rattle.build_run.proofs.Sites.{sound_still}
 use Rattle.build_run.proofs.Presenting.{along_present, due_present, lacks_on}
 use Rattle.build_run.proofs.Starting.{end_of_turn, ended_looked}
 use Rattle.build_run.proofs.Reasons.{last_exit, last_inside}
+use Rattle.build_run.proofs.Choosing.{goes_before}
+use Rattle.build_run.proofs.Printing.{quiet_looked, quiet_prints, quiet_turn}
 use Rattle.build_run.proofs.site.Site.decide.Goals as goal
 
 pub returns-in_err-now-clause-ends : goal.returns-in_err-now-clause-ends
@@ -132,3 +134,42 @@ pub returns-in_err-missing-in-Lacks-clause-last : goal.returns-in_err-missing-in
 returns-in_err-missing-in-Lacks-clause-last g c =
     let r = c.from_residual-in_err-missing-in-Lacks in
     last_exit r.result _ r.ensures.1 (last_inside _ c.in_err-missing-in-Lacks.ensures.quiet)
+
+pub returns-in_err-now-clause-printing : goal.returns-in_err-now-clause-printing
+returns-in_err-now-clause-printing g c =
+    let m = g.W.Disk.meaning in
+    quiet_turn m g.O.Sink.meaning c.args.self.now _ _ c.from_residual.result
+    (quiet_looked m c.args.self.now _ refl refl (λ e. e) c.present.ensures.looks.around)
+
+pub returns-in_err-missing-in-Lacks-clause-printing : goal.returns-in_err-missing-in-Lacks-clause-printing
+returns-in_err-missing-in-Lacks-clause-printing g c =
+    let m = g.W.Disk.meaning in
+    quiet_turn m g.O.Sink.meaning c.args.self.now _ _ c.from_residual-in_err-missing-in-Lacks.result
+    (quiet_looked m c.args.self.now _ refl refl (λ e. e) c.present.ensures.looks.around)
+
+pub returns-in_ok-missing-in-Lacks-clause-printing : goal.returns-in_ok-missing-in-Lacks-clause-printing
+returns-in_ok-missing-in-Lacks-clause-printing g c =
+    let m = g.W.Disk.meaning in
+    quiet_turn m g.O.Sink.meaning c.args.self.now _ _ _
+    (quiet_looked m c.args.self.now _ refl refl (λ e. goes_before c.args.self.now.account.now c.fail.new.self c.fail.ensures.ends e)
+    c.present.ensures.looks.around)
+
+pub returns-in-Record-clause-printing : goal.returns-in-Record-clause-printing
+returns-in-Record-clause-printing g c = record {
+  told = c.make.ensures.printing.told;
+  prints = λ tells sure shows o outset along wanted start printed.
+      let m = g.W.Disk.meaning in
+      let site = c.args.self.now in
+      let p = c.present.ensures in
+      let told = c.make.ensures.passes.passes.told in
+      let before = told.told tells in
+      let asks = p.looks.around before in
+      let on = quiet_prints m g.O.Sink.meaning site _ (quiet_looked m site _ refl refl (λ e. e) p.looks.around) in
+      c.make.ensures.printing.prints tells sure shows o outset
+      (along_present m o outset site _ along c.args.rule wanted.0 asks refl refl refl refl p.rest before (Ok c.in_ok-now.field-0)
+      c.in_ok-now.ensures.presents c.in_ok-now.ensures.cause)
+      (due_present m o outset site _ along c.args.rule wanted.0 asks refl refl refl refl p.rest before (Ok c.in_ok-now.field-0)
+      c.in_ok-now.ensures.presents c.in_ok-now.ensures.cause c.in-Record.now (cc c.in-Record.is)
+      (g.met.W.World.held site.world.now (p.looks.told.told before)) wanted.1)
+      start (on.prints before (told.sure tells sure) (c.make.ensures.printing.told shows) o outset along start printed);
+}

@@ -1,7 +1,9 @@
 use Rattle.build_run.proofs.Turning.{turn_then}
+use Rattle.world_api.proofs.Moments.{tells_on}
 use Rattle.std.proofs.Common.{◌∙◌, ap}
 use Rattle.world_api.specs.Around.{Around}
 use Rattle.build_run.proofs.Alongs.{goes_to_rest, still_at_rest}
+use Rattle.build_run.proofs.Printing.{prints_on, quiet_on, quiet_prints, quiet_put}
 use Rattle.build_run.proofs.Sites.{site_on, site_puts}
 use Rattle.build_run.proofs.site.Site.go_on.Goals as goal
 
@@ -47,3 +49,18 @@ returns-clause-stored g c = c.put_held.ensures.stored.kept
 
 pub returns-clause-reason : goal.returns-clause-reason
 returns-clause-reason g c = λ reason. c.put_held.ensures.reason (c.wait_for_all.ensures.reason (c.take_turns.ensures.reason reason))
+
+pub returns-clause-printing : goal.returns-clause-printing
+returns-clause-printing g c =
+    let m = g.W.Disk.meaning in
+    let p = g.O.Sink.meaning in
+    let waits = c.wait_for_all.ensures in
+    let put = c.put_held.ensures in
+    let told = put.puts.goes.passes.told in
+    let mid = c.take_turns.new.self in
+    prints_on m p c.args.self.now mid _ (tells_on m mid.world.now c.wait_for_all.new.self.world.now _ waits.passes.passes.told told)
+    c.take_turns.ensures.along c.take_turns.ensures.printing
+    (quiet_prints m p mid _ (quiet_on m mid c.wait_for_all.new.self _ told waits.quiet (quiet_put m c.wait_for_all.new.self _ put.puts put.stands)))
+
+pub returns-clause-texts : goal.returns-clause-texts
+returns-clause-texts g c = λ start has. c.put_held.ensures.texts start (c.wait_for_all.ensures.texts start (c.take_turns.ensures.texts start has))

@@ -9,6 +9,9 @@ use Rattle.build_run.proofs.Clearing.{held_err, launched, refused}
 use Rattle.build_run.proofs.Goings.{passes_on, stays_here}
 use Rattle.build_run.proofs.Outs.{held_ok, stored_alike, stored_over, unheld_still}
 use Rattle.build_run.proofs.Sites.{joined_after, site_goes, sound_refused, sound_still}
+use Rattle.build_run.specs.Output.{nothing}
+use Rattle.build_run.proofs.StartPrinting.{last_cut, last_whole}
+use Rattle.build_run.proofs.Reporting.{cleared_told, same_told}
 use Rattle.build_run.proofs.site.Site.launch.Goals as goal
 
 pub begin-requires-clause-apart : goal.begin-requires-clause-apart
@@ -140,3 +143,25 @@ returns-clause-safe g c =
     (λ unshut. sym (ap (λ (l : Ledger). l.shut) c.show.ensures.account) ∙ unshut)
     (unheld_still c.args.self.now.run.now.held cleared.run.now.held c.args.job.targets c.clear.ensures.held c.requires.ready.beside)
     (λ hold there. c.requires.ready.apart hold (subst (λ (busies : List Busy). Contains (holds_in busies) hold) c.clear.ensures.goes.tickets there)))
+
+pub returns-in_err-clear-clause-cuts : goal.returns-in_err-clear-clause-cuts
+returns-in_err-clear-clause-cuts g c = held_err c.from_residual.result (nothing c.clear.ensures.goes.out)
+
+pub returns-in_err-show-clause-cuts : goal.returns-in_err-show-clause-cuts
+returns-in_err-show-clause-cuts g c =
+    held_err c.from_residual-in_err-show.result (last_cut g.O.Sink.meaning _ _ _ _ c.clear.ensures.goes.out c.in_err-show.ensures.cuts)
+
+pub returns-clause-cuts : goal.returns-clause-cuts
+returns-clause-cuts g c =
+    held_err c.begin.result (last_whole g.O.Sink.meaning _ _ _ _ c.clear.ensures.goes.out c.in_ok-show.ensures.prints)
+
+pub returns-in_err-clear-clause-texts : goal.returns-in_err-clear-clause-texts
+returns-in_err-clear-clause-texts g c = cleared_told g.E.Sink.meaning _ _ _ _ c.clear.ensures.goes.err c.clear.ensures.texts
+
+pub returns-in_err-show-clause-texts : goal.returns-in_err-show-clause-texts
+returns-in_err-show-clause-texts g c = λ start has.
+    same_told g.E.Sink.meaning _ _ _ c.show.ensures.texts start (cleared_told g.E.Sink.meaning _ _ _ _ c.clear.ensures.goes.err c.clear.ensures.texts start has)
+
+pub returns-clause-texts : goal.returns-clause-texts
+returns-clause-texts g c = λ start has.
+    same_told g.E.Sink.meaning _ _ _ c.show.ensures.texts start (cleared_told g.E.Sink.meaning _ _ _ _ c.clear.ensures.goes.err c.clear.ensures.texts start has)

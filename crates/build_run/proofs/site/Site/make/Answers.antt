@@ -20,6 +20,10 @@ use Rattle.build_run.proofs.Sites.{looked_at, sound_still}
 use Rattle.build_run.proofs.Starting.{end_of_turn, ended_looked}
 use Rattle.build_run.specs.Books.{book_of}
 use Rattle.build_run.proofs.Booking.{shut_on}
+use Rattle.build_run.proofs.Explaining.{why_after}
+use Rattle.build_run.proofs.Printing.{end_printed, quiet_looked, quiet_make, quiet_prints}
+use Rattle.build_run.proofs.Choosing.{targets_idle}
+use Rattle.build_run.proofs.Reporting.{same_told}
 use Rattle.build_run.proofs.site.Site.make.Goals as goal
 
 pub returns-in_err-is_stale-clause-ends : goal.returns-in_err-is_stale-clause-ends
@@ -217,3 +221,108 @@ returns-clause-shows g c =
           tells_reason c.least_is_reason.ensures site.graph.now site.options c.args.rule.0 (map_of site.store.now) c.args.now (m.around site.world.now) why
           (is told idle);
     }
+
+pub returns-in_err-is_stale-clause-printing : goal.returns-in_err-is_stale-clause-printing
+returns-in_err-is_stale-clause-printing g c =
+    let m = g.W.Disk.meaning in
+    quiet_make m g.O.Sink.meaning c.args.self.now _ c.args.rule c.args.now c.from_residual.result
+    (quiet_looked m c.args.self.now _ refl refl (λ e. e) c.is_stale.ensures.looks.around)
+
+pub returns-then-not-branch-clause-printing : goal.returns-then-not-branch-clause-printing
+returns-then-not-branch-clause-printing g c =
+    let m = g.W.Disk.meaning in
+    quiet_make m g.O.Sink.meaning c.args.self.now _ c.args.rule c.args.now _
+    (quiet_looked m c.args.self.now _ refl refl (λ e. e) c.is_stale.ensures.looks.around)
+
+pub returns-in_err-why-clause-printing : goal.returns-in_err-why-clause-printing
+returns-in_err-why-clause-printing g c =
+    let m = g.W.Disk.meaning in
+    let looks = looks_joined m _ _ _ c.is_stale.ensures.looks c.why_text.ensures.looks in
+    quiet_make m g.O.Sink.meaning c.args.self.now _ c.args.rule c.args.now c.from_residual-in_err-why.result
+    (quiet_looked m c.args.self.now _ refl refl (λ e. e) looks.around)
+
+pub returns-in_err-start-clause-printing : goal.returns-in_err-start-clause-printing
+returns-in_err-start-clause-printing g c = record {
+  told = c.start.ensures.printing.told;
+  prints = λ tells sure shows o outset along due start printed.
+      let m = g.W.Disk.meaning in
+      let p = g.O.Sink.meaning in
+      let site = c.args.self.now in
+      let seen = c.is_stale.new.world in
+      let looks = looks_joined m _ _ _ c.is_stale.ensures.looks c.why_text.ensures.looks in
+      let told = c.start.ensures.passes.passes.told in
+      let before = told.told tells in
+      let asks = looks.around before in
+      let first = c.is_stale.ensures.looks.around (c.why_text.ensures.looks.told.told before) in
+      let is = found_now m o outset site along c.args.rule c.args.now due c.why_text.new.world asks c.requires.sound g.met.W.Disk.reads_as
+      (looks.told.told before) c.in_ok-is_stale.field-0 (c.in_ok-is_stale.ensures.due (c.why_text.ensures.looks.told.told before)) in
+      let idle = idle_on (m.around site.world.now) (m.around seen) (map_of site.store.now) c.args.now
+      (targets_idle o outset along.on.jobs (standing_of m site) along.on.past along.on.at.way (along.on.at.knows due.weighed.goes_on) c.args.rule
+      due.model c.args.now due.weighed) first in
+      let why = why_after (m.around seen) (m.around c.why_text.new.world) (map_of site.store.now) c.args.now idle
+      (c.why_text.ensures.looks.around before) site.graph.now site.options c.args.rule.0 (string_bytes c.in_ok-why.why)
+      (c.in_ok-why.ensures.why before idle) in
+      let on = quiet_prints m p site _ (quiet_looked m site _ refl refl (λ e. e) looks.around) in
+      let so = c.in_err-start.ensures.printing.prints tells sure shows o outset
+      (along_looked m o outset site _ along asks refl refl refl refl refl (c.in_ok-why.ensures.cause ∙ c.in_ok-is_stale.ensures.cause)
+      (λ is. asked (begun_at o) site.graph.now site.run.now.inputs (m.around site.world.now) (m.around c.why_text.new.world) asks is) refl (λ is. is) (marks_here site.graph.now site.run.now.inputs))
+      (record {
+        room = due.room;
+        own = due.own;
+        model = due.model;
+        weighed = weighed_now m o outset site along c.args.rule c.args.now due c.why_text.new.world asks;
+      })
+      (sym is ∙ c.if-not-branch.false)
+      (record {
+        is = why;
+        tells = tells_reason c.least_is_reason.ensures site.graph.now site.options c.args.rule.0 (map_of site.store.now) c.args.now
+            (m.around c.why_text.new.world) (string_bytes c.in_ok-why.why) why;
+      })
+      start (on.prints before (told.sure tells sure) (c.start.ensures.printing.told shows) o outset along start printed) in
+      end_printed m p _ c.from_residual-in_err-start.result o start _ c.from_residual-in_err-start.ensures.1 so;
+}
+
+pub returns-clause-printing : goal.returns-clause-printing
+returns-clause-printing g c = record {
+  told = c.start.ensures.printing.told;
+  prints = λ tells sure shows o outset along due start printed.
+      let m = g.W.Disk.meaning in
+      let p = g.O.Sink.meaning in
+      let site = c.args.self.now in
+      let seen = c.is_stale.new.world in
+      let looks = looks_joined m _ _ _ c.is_stale.ensures.looks c.why_text.ensures.looks in
+      let told = c.start.ensures.passes.passes.told in
+      let before = told.told tells in
+      let asks = looks.around before in
+      let first = c.is_stale.ensures.looks.around (c.why_text.ensures.looks.told.told before) in
+      let is = found_now m o outset site along c.args.rule c.args.now due c.why_text.new.world asks c.requires.sound g.met.W.Disk.reads_as
+      (looks.told.told before) c.in_ok-is_stale.field-0 (c.in_ok-is_stale.ensures.due (c.why_text.ensures.looks.told.told before)) in
+      let idle = idle_on (m.around site.world.now) (m.around seen) (map_of site.store.now) c.args.now
+      (targets_idle o outset along.on.jobs (standing_of m site) along.on.past along.on.at.way (along.on.at.knows due.weighed.goes_on) c.args.rule
+      due.model c.args.now due.weighed) first in
+      let why = why_after (m.around seen) (m.around c.why_text.new.world) (map_of site.store.now) c.args.now idle
+      (c.why_text.ensures.looks.around before) site.graph.now site.options c.args.rule.0 (string_bytes c.in_ok-why.why)
+      (c.in_ok-why.ensures.why before idle) in
+      let on = quiet_prints m p site _ (quiet_looked m site _ refl refl (λ e. e) looks.around) in
+      let so = c.in_ok-start.ensures.printing.prints tells sure shows o outset
+      (along_looked m o outset site _ along asks refl refl refl refl refl (c.in_ok-why.ensures.cause ∙ c.in_ok-is_stale.ensures.cause)
+      (λ is. asked (begun_at o) site.graph.now site.run.now.inputs (m.around site.world.now) (m.around c.why_text.new.world) asks is) refl (λ is. is) (marks_here site.graph.now site.run.now.inputs))
+      (record {
+        room = due.room;
+        own = due.own;
+        model = due.model;
+        weighed = weighed_now m o outset site along c.args.rule c.args.now due c.why_text.new.world asks;
+      })
+      (sym is ∙ c.if-not-branch.false)
+      (record {
+        is = why;
+        tells = tells_reason c.least_is_reason.ensures site.graph.now site.options c.args.rule.0 (map_of site.store.now) c.args.now
+            (m.around c.why_text.new.world) (string_bytes c.in_ok-why.why) why;
+      })
+      start (on.prints before (told.sure tells sure) (c.start.ensures.printing.told shows) o outset along start printed) in
+      record { has = so.has; none = λ e. so.none (goes_before c.start.new.self.account.now c.note_start.new.self c.note_start.ensures.ends e) };
+}
+
+pub returns-clause-texts : goal.returns-clause-texts
+returns-clause-texts g c = λ start has.
+    same_told g.E.Sink.meaning _ c.start.new.self.account.now c.note_start.new.self c.note_start.ensures.same start (c.start.ensures.texts start has)

@@ -7,6 +7,7 @@ use Rattle.build_run.proofs.Causing.{exit_same, look_end, same_counts}
 use Rattle.build_run.proofs.Scanning.{goes_on, scan_ends, scan_told, still}
 use Rattle.build_run.proofs.Sites.{looked_at, sound_still}
 use Rattle.build_run.proofs.Starting.{end_of_turn}
+use Rattle.build_run.proofs.Printing.{quiet_looked}
 use Rattle.build_run.proofs.site.Site.scan.Goals as goal
 
 pub returns-in_err-found-clause-along : goal.returns-in_err-found-clause-along
@@ -69,3 +70,9 @@ returns-in_err-found-clause-safe g c = site_saw g.W.Disk.meaning g.met.W.Disk.on
 
 pub returns-clause-safe : goal.returns-clause-safe
 returns-clause-safe g c = site_saw g.W.Disk.meaning g.met.W.Disk.only_now c.args.self.now _ c.scanned.ensures.looks refl refl refl refl
+
+pub returns-in_err-found-clause-quiet : goal.returns-in_err-found-clause-quiet
+returns-in_err-found-clause-quiet g c = quiet_looked g.W.Disk.meaning c.args.self.now _ refl refl (λ e. e) c.scanned.ensures.looks.around
+
+pub returns-clause-quiet : goal.returns-clause-quiet
+returns-clause-quiet g c = quiet_looked g.W.Disk.meaning c.args.self.now _ refl refl (λ e. e) c.scanned.ensures.looks.around

@@ -23,6 +23,11 @@ use Rattle.build_run.proofs.Booking.{store_book}
 use Rattle.build_run.proofs.Launching.{left_by, takes_away}
 use Rattle.build_run.proofs.Starting.{end_leads, ends_as, held_within, launched_on, left_on, room_in}
 use Rattle.build_run.proofs.Reasons.{last_exit, last_inside, last_within}
+use Rattle.std.specs.Prelude.{string_bytes}
+use Rattle.build_model.specs.Rules.{Record}
+use Rattle.build_run.specs.Output.{PrintsLast}
+use Rattle.build_run.proofs.Printing.{end_printed}
+use Rattle.build_run.proofs.StartPrinting.{last_told, refused_printed, started_printed}
 use Rattle.build_run.proofs.site.Site.start.Goals as goal
 
 pub returns-then-self-clause-ends : goal.returns-then-self-clause-ends
@@ -383,3 +388,77 @@ returns-in-Ok-clause-prints g c = λ x at.
     let site = c.args.self.now in
     subst (λ (t : List ℕ). Prints g.O.Sink.meaning site.out.now c.launch.new.self.out.now t) (c.as_str.ensures.value ∙ c.in_ok-text.ensures x at)
     c.in-Ok.ensures.prints
+
+pub returns-then-self-clause-printing : goal.returns-then-self-clause-printing
+returns-then-self-clause-printing g c = record { told = λ t. t; prints = λ tells sure shows o outset along due is_due says start is. is.has }
+
+pub returns-then-not-are_apart-clause-printing : goal.returns-then-not-are_apart-clause-printing
+returns-then-not-are_apart-clause-printing g c = record { told = λ t. t; prints = λ tells sure shows o outset along due is_due says start is. is.has }
+
+pub returns-then-not-make_none_of-clause-printing : goal.returns-then-not-make_none_of-clause-printing
+returns-then-not-make_none_of-clause-printing g c = record { told = λ t. t; prints = λ tells sure shows o outset along due is_due says start is. is.has }
+
+pub returns-in_err-text-clause-printing : goal.returns-in_err-text-clause-printing
+returns-in_err-text-clause-printing g c = record {
+  told = λ t. t;
+  prints = λ tells sure shows o outset along due is_due says start is.
+      end_printed g.W.Disk.meaning g.O.Sink.meaning _ c.from_residual.result o start _ c.from_residual.ensures.1 is.has;
+}
+
+pub returns-in_err-job-clause-printing : goal.returns-in_err-job-clause-printing
+returns-in_err-job-clause-printing g c = record {
+  told = λ t. t;
+  prints = λ tells sure shows o outset along due is_due says start is.
+      end_printed g.W.Disk.meaning g.O.Sink.meaning _ c.from_residual-in_err-job.result o start _ c.from_residual-in_err-job.ensures.1 is.has;
+}
+
+pub returns-in_err-hold-clause-printing : goal.returns-in_err-hold-clause-printing
+returns-in_err-hold-clause-printing g c = record {
+  told = λ t. t;
+  prints = λ tells sure shows o outset along due is_due says start is.
+      end_printed g.W.Disk.meaning g.O.Sink.meaning _ c.from_residual-in_err-hold.result o start _ c.from_residual-in_err-hold.ensures.1 is.has;
+}
+
+pub returns-in_err-ticket-clause-printing : goal.returns-in_err-ticket-clause-printing
+returns-in_err-ticket-clause-printing g c = record {
+  told = λ t. t;
+  prints = λ tells sure shows o outset along due is_due says start is.
+      end_printed g.W.Disk.meaning g.O.Sink.meaning _ c.from_residual-in_err-ticket.result o start _ c.from_residual-in_err-ticket.ensures.1 is.has;
+}
+
+pub returns-in-Ok-clause-printing : goal.returns-in-Ok-clause-printing
+returns-in-Ok-clause-printing g c = record {
+  told = c.in-Ok.ensures.prints.told;
+  prints = λ tells sure shows o outset along due is_due says start is.
+      let m = g.W.Disk.meaning in
+      let p = g.O.Sink.meaning in
+      let site = c.args.self.now in
+      let now = c.launch.new.self in
+      let from = c.in_ok-job.ensures in
+      let before = c.launch.ensures.passes.passes.told.told tells in
+      let text = c.in_ok-text.text in
+      let on = started_printed m p o outset site along c.args.rule c.args.now due c.requires.sound g.met.W.Disk.reads_as before
+      c.in_ok-ticket.ensures.out.spells.valid (string_bytes c.args.why) says is_due (string_bytes text) c.in_ok-text.ensures c.in_ok-job.job from now
+      (c.in-Ok.ensures.starts tells) c.launch.ensures.passes.same.options (from.targets ∙ ap (λ (x : Record). x.targets) due.weighed.present.is) start is.has
+      (is.none due.weighed.goes_on)
+      (subst (λ (t : List ℕ). Prints p site.out.now now.out.now t) c.as_str.ensures.value c.in-Ok.ensures.prints) shows in
+      record { has = on.has; none = on.none };
+}
+
+pub returns-clause-printing : goal.returns-clause-printing
+returns-clause-printing g c = record {
+  told = λ t. last_told g.O.Sink.meaning _ _ _ c.in-Err.ensures.cuts t;
+  prints = λ tells sure shows o outset along due is_due says start is.
+      let m = g.W.Disk.meaning in
+      let p = g.O.Sink.meaning in
+      let site = c.args.self.now in
+      let now = c.launch.new.self in
+      let from = c.in_ok-job.ensures in
+      let before = c.launch.ensures.passes.passes.told.told tells in
+      let text = c.in_ok-text.text in
+      refused_printed m p o outset site along c.args.rule c.args.now due c.requires.sound g.met.W.Disk.reads_as before
+      c.in_ok-ticket.ensures.out.spells.valid (string_bytes c.args.why) says is_due (string_bytes text) c.in_ok-text.ensures c.in_ok-job.job
+      (from.targets ∙ ap (λ (x : Record). x.targets) due.weighed.present.is) now (c.in-Err.ensures.clears tells) c.launch.ensures.passes.same.options
+      start is.has (is.none due.weighed.goes_on)
+      (subst (λ (t : List ℕ). PrintsLast p site.out.now now.out.now t) c.as_str.ensures.value c.in-Err.ensures.cuts) shows;
+}

@@ -24,6 +24,9 @@ use Rattle.build_run.proofs.EndingOn.{done_is, put_counts, put_ends, put_others,
 use Rattle.build_run.proofs.Causing.{account_as, settled, untold}
 use Rattle.build_run.proofs.Goings.{passes_on}
 use Rattle.build_run.proofs.Outs.{held_count, last_of, out_in, room_beside, rule_of, stored_alike, stored_beside, stored_left, stored_over, stored_taken}
+use Rattle.build_run.proofs.Choosing.{goes_before}
+use Rattle.build_run.proofs.Printing.{ends_same, put_ended, quiet_ended}
+use Rattle.build_run.proofs.Reporting.{same_told}
 use Rattle.build_run.proofs.site.Site.take_ended.Goals as goal
 
 pub returns-in_default-clause-passes : goal.returns-in_default-clause-passes
@@ -325,3 +328,25 @@ returns-in-Done-clause-safe g c = λ s safe.
           (λ now. record { moments = two.moments; now = two.now.world })).moments;
       now = two.now;
     }
+
+pub returns-in_default-clause-quiet : goal.returns-in_default-clause-quiet
+returns-in_default-clause-quiet g c =
+    quiet_ended g.W.Disk.meaning c.args.self.now _ c.wait-ended.result refl refl (λ e. true_false (sym c.want_memory.ensures.ends.ended ∙ e))
+    c.wait-ended.ensures.ends
+
+pub returns-in_default-outcome-clause-quiet : goal.returns-in_default-outcome-clause-quiet
+returns-in_default-outcome-clause-quiet g c =
+    quiet_ended g.W.Disk.meaning c.args.self.now _ c.wait-ended.result refl refl
+    (λ e. goes_before c.args.self.now.account.now c.not_done.new.account c.not_done.ensures.ends e) c.wait-ended.ensures.ends
+
+pub returns-in-Done-clause-quiet : goal.returns-in-Done-clause-quiet
+returns-in-Done-clause-quiet g c =
+    let m = g.W.Disk.meaning in
+    let p = c.hold.ensures.puts in
+    quiet_ended m c.args.self.now c.hold.new.self c.wait-ended.result p.out p.same.options (λ e. put_ended m _ c.hold.new.self c.hold.ensures.stands e)
+    (λ t. ends_same m c.wait-ended.result c.args.self.now.world.now c.wait-ended.new.world c.hold.new.self.world.now (p.around t)
+    (c.wait-ended.ensures.ends (p.goes.passes.told.told t)))
+
+pub returns-in_default-clause-texts : goal.returns-in_default-clause-texts
+returns-in_default-clause-texts g c = λ start has.
+    same_told g.E.Sink.meaning _ c.args.self.now.account.now c.want_memory.new.self c.want_memory.ensures.same start has

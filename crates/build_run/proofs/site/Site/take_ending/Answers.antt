@@ -9,6 +9,7 @@ use Rattle.build_run.specs.declared.building.Options.{Options}
 use Rattle.build_run.proofs.EndingOn.{may_take}
 use Rattle.build_run.proofs.Sites.{site_on, site_puts}
 use Rattle.build_run.proofs.Booking.{puts_book}
+use Rattle.build_run.proofs.Printing.{quiet_on, quiet_put}
 use Rattle.build_run.proofs.site.Site.take_ending.Goals as goal
 
 pub take_ended-requires-clause-some : goal.take_ended-requires-clause-some
@@ -73,3 +74,13 @@ pub returns-clause-safe : goal.returns-clause-safe
 returns-clause-safe g c =
     site_safely_on g.W.Disk.meaning c.args.self.now c.put_if_few.new.self _ c.take_ended.ensures.passes.passes.told c.put_if_few.ensures.safe
     c.take_ended.ensures.safe
+
+pub returns-clause-quiet : goal.returns-clause-quiet
+returns-clause-quiet g c =
+    let m = g.W.Disk.meaning in
+    let put = c.put_if_few.ensures in
+    quiet_on m c.args.self.now c.put_if_few.new.self _ c.take_ended.ensures.passes.passes.told
+    (quiet_put m c.args.self.now c.put_if_few.new.self put.puts put.stands) c.take_ended.ensures.quiet
+
+pub returns-clause-texts : goal.returns-clause-texts
+returns-clause-texts g c = λ start has. c.take_ended.ensures.texts start (c.put_if_few.ensures.texts start has)

@@ -2,6 +2,8 @@ use Rattle.std.proofs.Common.{refl, subst, sym}
 use Rattle.task_plan.specs.declared.want.Want.{Want}
 use Rattle.build_run.specs.Safe.{TurnsSafelyAs}
 use Rattle.build_run.proofs.Stopping.{site_rests}
+use Rattle.build_run.specs.Output.{TurnsPrinting}
+use Rattle.build_run.proofs.Printing.{quiet_around, quiet_turn}
 use Rattle.build_run.proofs.site.Site.take_turn.Goals as goal
 
 pub returns-in-Scan-clause-safe : goal.returns-in-Scan-clause-safe
@@ -19,3 +21,19 @@ pub returns-in-Rest-clause-safe : goal.returns-in-Rest-clause-safe
 returns-in-Rest-clause-safe g c = λ wanted s along safe.
     let site = c.args.self.now in
     site_rests g.W.Disk.meaning g.met.W.Disk.only_now site site refl refl refl refl (λ unshut. unshut) s safe
+
+pub returns-in-Scan-clause-printing : goal.returns-in-Scan-clause-printing
+returns-in-Scan-clause-printing g c = quiet_turn g.W.Disk.meaning g.O.Sink.meaning _ _ _ _ c.scan.ensures.quiet
+
+pub returns-in-Decide-clause-printing : goal.returns-in-Decide-clause-printing
+returns-in-Decide-clause-printing g c =
+    subst (λ (wanted : Want). TurnsPrinting g.W.Disk.meaning g.O.Sink.meaning c.args.self.now c.decide.new.self wanted c.decide.result)
+    (sym c.in-Decide.is) c.decide.ensures.printing
+
+pub returns-in-Wait-clause-printing : goal.returns-in-Wait-clause-printing
+returns-in-Wait-clause-printing g c = quiet_turn g.W.Disk.meaning g.O.Sink.meaning _ _ _ _ c.take_ending.ensures.quiet
+
+pub returns-in-Rest-clause-printing : goal.returns-in-Rest-clause-printing
+returns-in-Rest-clause-printing g c =
+    let m = g.W.Disk.meaning in
+    quiet_turn m g.O.Sink.meaning _ _ _ _ (quiet_around m c.args.self.now c.args.self.now refl refl (λ e. e) (λ t. refl))

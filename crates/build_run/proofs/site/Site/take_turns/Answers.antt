@@ -2,6 +2,9 @@ use Rattle.std.proofs.Common.{refl, rules}
 use Rattle.build_run.proofs.Stopping.{site_rests}
 use Rattle.build_run.proofs.Turning.{turn_then, turns_on}
 use Rattle.build_run.proofs.Alongs.{along_on, memory_along, rests_by, rests_halted, turn_along}
+use Rattle.build_run.proofs.Printing.{prints_on, quiet_prints, turn_prints}
+use Rattle.build_run.specs.Ledgers.{ledger_of}
+use Rattle.build_run.proofs.Causing.{wanted}
 use Rattle.build_run.proofs.Sites.{site_on}
 use Rattle.build_run.proofs.site.Site.take_turns.Goals as goal
 
@@ -24,6 +27,10 @@ loop-turn-preserved g c =
           (turn_along m _ _ _ _ tell.passes.passes.told turn.passes.same.options _ (c.want-wanted.ensures.wanted (search rules)) turn.along tell.along);
       safe = turns_on m _ _ _ before.passes.passes.told told.passes.told before.along before.safe
           (turn_then m _ _ _ tell.passes.passes.told (turn.safe (c.want-wanted.ensures.wanted (search rules))) tell.safe);
+      printing = prints_on m g.O.Sink.meaning _ _ _ told.passes.told before.along before.printing
+          (turn_prints m g.O.Sink.meaning _ _ _ _ _ tell.passes.passes.told (c.want-wanted.ensures.wanted (search rules)) turn.printing tell.quiet tell.still
+          tell.ends);
+      texts = λ start has. tell.texts start (turn.texts start (before.texts start has));
       reason = λ r. tell.reason turn.last (turn.reason (before.reason r));
     }
 
@@ -45,12 +52,27 @@ loop-turn-init g c = record {
   accounts = search rules;
   sound = search rules;
   along = search rules;
+  printing = record { told = λ t. t; prints = λ tells sure shows o outset along start is. is };
   safe = λ s along safe.
       site_rests g.W.Disk.meaning g.met.W.Disk.only_now c.args.self.now c.args.self.now refl refl refl refl (λ unshut. unshut) s safe;
   reason = λ r. r;
+  texts = λ start has. has;
 }
 
 pub returns-clause-safe : goal.returns-clause-safe
 returns-clause-safe g c =
     turn_then g.W.Disk.meaning c.args.self.now c.loop-turn.self c.tell-2.new.self c.tell-2.ensures.passes.passes.told c.loop-turn.invariant.safe
     c.tell-2.ensures.safe
+
+pub returns-clause-printing : goal.returns-clause-printing
+returns-clause-printing g c =
+    prints_on g.W.Disk.meaning g.O.Sink.meaning c.args.self.now c.loop-turn.self c.tell-2.new.self c.tell-2.ensures.passes.passes.told
+    c.loop-turn.invariant.along c.loop-turn.invariant.printing
+    (quiet_prints g.W.Disk.meaning g.O.Sink.meaning c.loop-turn.self c.tell-2.new.self c.tell-2.ensures.quiet)
+
+pub returns-clause-texts : goal.returns-clause-texts
+returns-clause-texts g c = λ start has. c.tell-2.ensures.texts start (c.loop-turn.invariant.texts start has)
+
+pub returns-clause-accounts : goal.returns-clause-accounts
+returns-clause-accounts g c = λ start a.
+    c.tell-2.ensures.accounts start (wanted start (ledger_of c.loop-turn.self.account.now) _ (c.loop-turn.invariant.accounts start a))

@@ -1,4 +1,6 @@
 use Rattle.build_run.specs.Along.{StaysAlong}
+use Rattle.build_run.specs.FaultTexts.{SiteKeepsTold}
+use Rattle.build_run.specs.Output.{PrintsAlong}
 use Rattle.build_run.specs.Reasons.{SiteKeepsReason}
 use Rattle.build_run.specs.Safe.{TurnsSafely}
 use Rattle.build_run.specs.Sites.{IsSound, SiteAccounts, SitePasses}
@@ -12,6 +14,8 @@ invariant-loop-turn g l =
       accounts : SiteAccounts m g.O.Sink.meaning g.E.Sink.meaning l.fn.self l.self;
       sound : IsSound m l.self;
       along : StaysAlong m l.fn.self l.self;
+      printing : PrintsAlong m g.O.Sink.meaning l.fn.self l.self;
       safe : TurnsSafely m l.fn.self l.self;
       reason : SiteKeepsReason l.fn.self l.self;
+      texts : SiteKeepsTold g.E.Sink.meaning l.fn.self l.self;
     }

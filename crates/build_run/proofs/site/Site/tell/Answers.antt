@@ -3,6 +3,7 @@ use Rattle.build_run.specs.Books.{book_of}
 use Rattle.build_run.proofs.Stopping.{site_rests}
 use Rattle.build_run.proofs.Alongs.{told_to}
 use Rattle.build_run.proofs.Booking.{shut_on}
+use Rattle.build_run.proofs.Printing.{quiet_around, tells_end, tells_ended}
 use Rattle.build_run.proofs.site.Site.tell.Goals as goal
 
 pub returns-clause-along : goal.returns-clause-along
@@ -18,3 +19,15 @@ returns-clause-along g c = λ o outset asked leads.
 pub returns-clause-safe : goal.returns-clause-safe
 returns-clause-safe g c =
     site_rests g.W.Disk.meaning g.met.W.Disk.only_now c.args.self.now _ refl refl refl refl (λ unshut. sym c.tell.ensures.reports.shut ∙ unshut)
+
+pub returns-clause-quiet : goal.returns-clause-quiet
+returns-clause-quiet g c =
+    let site = c.args.self.now in
+    quiet_around g.W.Disk.meaning site _ refl refl
+    (λ e. tells_ended site.graph.now site.run.now.plan c.tell.new.plan c.args.done site.account.now c.tell.new.account c.tell.ensures.tells e)
+    (λ t. refl)
+
+pub returns-clause-ends : goal.returns-clause-ends
+returns-clause-ends g c =
+    let site = c.args.self.now in
+    tells_end site.graph.now site.run.now.plan c.tell.new.plan c.args.done site.account.now c.tell.new.account c.tell.ensures.tells

@@ -4,6 +4,7 @@ use Rattle.task_plan.specs.Plans.{Planned}
 use Rattle.task_plan.specs.declared.want.Want.TheVariants as want
 use Rattle.build_run.specs.Holds.{Busy}
 use Rattle.build_run.proofs.Alongs.{along_on, turn_along, waits_halted}
+use Rattle.build_run.proofs.Printing.{quiet_around, quiet_on}
 use Rattle.build_run.proofs.Sites.{site_on}
 use Rattle.build_run.proofs.Stopping.{site_rests, site_safely_on}
 use Rattle.build_run.proofs.site.Site.wait_for_all.Goals as goal
@@ -27,6 +28,8 @@ loop-turn-preserved g c =
           omega (arith, ending.takes.fewer told_mid, before.left (ending.passes.passes.told.told told_mid), ap (λ (busies : List Busy). length busies) tell.tickets);
       sound = tell.sound ending.sound;
       safe = site_safely_on m _ _ _ tell.passes.passes.told (site_safely_on m _ _ _ ending.passes.passes.told before.safe ending.safe) tell.safe;
+      quiet = quiet_on m _ _ _ tell.passes.passes.told (quiet_on m _ _ _ ending.passes.passes.told before.quiet ending.quiet) tell.quiet;
+      texts = λ start has. tell.texts start (ending.texts start (before.texts start has));
       reason = λ r. tell.reason tt (ending.reason (before.reason r));
       same = λ e. absurd (omega (arith, e));
       halted = λ e. tell.halted (ap (λ (p : Planned). p.halted) ending.halted ∙ before.halted e);
@@ -42,7 +45,9 @@ loop-turn-init g c = record {
   left = search rules;
   sound = search rules;
   safe = site_rests g.W.Disk.meaning g.met.W.Disk.only_now c.args.self.now c.args.self.now refl refl refl refl (λ unshut. unshut);
+  quiet = quiet_around g.W.Disk.meaning c.args.self.now c.args.self.now refl refl (λ e. e) (λ t. refl);
   reason = λ r. r;
+  texts = λ start has. has;
   same = search rules;
   halted = search rules;
   along = search rules;

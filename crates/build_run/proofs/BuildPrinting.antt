@@ -1,0 +1,67 @@
+-- What a build has printed in the end.
+use Rattle.std.proofs.Common.{◌≡◌, ◌∙◌, [], append-nil, arith, refl, subst, sym}
+use Rattle.rule_graph.specs.Graphs.{RuleGraph}
+use Rattle.sign_store.specs.declared.store.Store.{Store}
+use Rattle.world_api.specs.Around.{Around}
+use Rattle.world_api.specs.Meaning.{Meaning}
+use Rattle.world_api.specs.Printed.{SinkMeaning}
+use Rattle.turn_means.specs.Standing.{Outset}
+use Rattle.build_run.specs.Outsets.{IsReadyFor}
+use Rattle.build_run.specs.Output.{IsPrinted, MakesPrinted, PrintsAlong}
+use Rattle.build_run.specs.StartTexts.{HasPrinted, no_more, no_text}
+use Rattle.build_run.specs.declared.account.Account.{Account}
+use Rattle.build_run.specs.declared.building.Options.{Options}
+use Rattle.build_run.specs.declared.site.Run.{Run}
+use Rattle.build_run.specs.declared.site.Site.{Site}
+use Rattle.build_run.proofs.Finishing.{first_along}
+
+-- where the log didn't grow nothing was printed
+pub none_printed : {O : Type 0} (p : SinkMeaning O) (o : Outset) (options : Options) (around : Around) (out : O) → around.log ≡ o.before.log →
+    HasPrinted p o options around out out
+none_printed p o options around out same = record {
+  entries = [];
+  grown = same ∙ sym (append-nil o.before.log);
+  text = [];
+  are = no_text;
+  rest = [];
+  is_rest = no_more;
+  printed = sym (append-nil (p.text out));
+  later = omega arith;
+}
+
+module _ {W O E : Type 0} (m : Meaning W) (p : SinkMeaning O) where
+  -- as it begins
+  pub first_printed : (o : Outset) (site : Site W O E) →
+      IsReadyFor m o site.graph.now site.run.now site.store.now site.world.now site.account.now site.options →
+      IsPrinted m p o site.out.now site
+  first_printed o site ready = record {
+    has = record {
+      entries = [];
+      grown = ready.sets.set.around.log ∙ sym (append-nil o.before.log);
+      text = [];
+      are = no_text;
+      rest = [];
+      is_rest = no_more;
+      printed = sym (append-nil (p.text site.out.now));
+      later = omega arith;
+    };
+    none = λ e. refl;
+  }
+
+  pub goes_printed : (site mid : Site W O E) → site.run.now.held ≡ [] → site.run.now.tickets ≡ [] → mid.options ≡ site.options →
+      PrintsAlong m p site mid →
+      MakesPrinted m p site.graph.now site.run.now site.store.now site.world.now site.account.now site.options site.out.now mid.world.now mid.out.now
+  goes_printed site mid none idle same along = record {
+    told = along.told;
+    prints = λ tells sure shows o ready.
+        subst (λ (x : Options). HasPrinted p o x (m.around mid.world.now) site.out.now mid.out.now) same
+        (along.prints tells sure shows o ready.outset (first_along m o site ready none idle) site.out.now (first_printed o site ready)).has;
+  }
+
+  -- what was lent has behind it what it held in the end
+  pub makes_given : (g : RuleGraph) (run : Run) (store : Store) (world : W) (account : Account) (options : Options) (out : O) (last : Site W O E)
+      (mid now : W) (mid_out new_out : O) → last.world.now ≡ now → last.out.now ≡ new_out → last.world.now ≡ mid → last.out.now ≡ mid_out →
+      MakesPrinted m p g run store world account options out mid mid_out → MakesPrinted m p g run store world account options out now new_out
+  makes_given g run store world account options out last mid now mid_out new_out lent lent_out same same_out made =
+      subst (λ (w : W). MakesPrinted m p g run store world account options out w new_out) (sym same ∙ lent)
+      (subst (λ (s : O). MakesPrinted m p g run store world account options out mid s) (sym same_out ∙ lent_out) made)
