@@ -1,3 +1,6 @@
+mod CleanEnters
+mod CleanSteps
+mod Cleaning
 mod Ending
 mod Trees
 mod TreePrints
