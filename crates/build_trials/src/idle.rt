@@ -17,6 +17,8 @@ pub(crate) struct IdleWorld {
     pub(crate) inner: MemWorld,
     /// The writes on standard output that the next run is refused.
     pub(crate) refused: Vec<u32>,
+    /// The same on standard error.
+    pub(crate) refused_errors: Vec<u32>,
     pub(crate) alloc: Global,
     ghost idle: { (around_of inner.state).running ≡ [] },
 }
@@ -34,6 +36,7 @@ impl IdleWorld {
             Ok(inner) => Some(IdleWorld {
                 inner,
                 refused: Vec::new(alloc),
+                refused_errors: Vec::new(alloc),
                 alloc,
             }),
             Err(_) => None,
@@ -102,7 +105,8 @@ impl IdleWorld {
         let alloc = self.alloc;
         let refused = std::mem::replace(&mut self.refused, Vec::new(alloc));
         let mut out = MemSink::new(alloc, refused).ok()?;
-        let mut err = MemSink::new(alloc, Vec::new(alloc)).ok()?;
+        let refused = std::mem::replace(&mut self.refused_errors, Vec::new(alloc));
+        let mut err = MemSink::new(alloc, refused).ok()?;
         let report = scons(alloc, words, &mut self.inner, &mut out, &mut err);
         Some(Ran { report, out, err })
     }
@@ -127,6 +131,7 @@ impl IdleWorld {
             Ok(inner) => Some(IdleWorld {
                 inner,
                 refused: Vec::new(alloc),
+                refused_errors: Vec::new(alloc),
                 alloc,
             }),
             Err(_) => None,

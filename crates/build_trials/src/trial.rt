@@ -56,6 +56,10 @@ fn put_runs(told: &mut Told, world: &mut IdleWorld, step: Step) {
             let number = told.number(step.rest);
             told.keep(&mut world.refused, number);
         }
+        "refused_errors" => {
+            let number = told.number(step.rest);
+            told.keep(&mut world.refused_errors, number);
+        }
         "turns" => put_turns(told, world, step.rest),
         "cuts" => put_cuts(told, world, step.rest),
         "failures" => put_failures(told, world, step.rest),
