@@ -43,15 +43,11 @@ fn say_of(
     if let Some(name) = alias_in(state, target) {
         let name = name.copy()?;
         match saying {
-            Saying::Depends => state
-                .aliases
-                .add(state.alloc, &name, Role::Member, nodes)?,
+            Saying::Depends => state.aliases.add(state.alloc, &name, Role::Member, nodes)?,
             Saying::Requires => state
                 .aliases
                 .add(state.alloc, &name, Role::Required, nodes)?,
-            Saying::Ignore => state
-                .aliases
-                .add(state.alloc, &name, Role::Ignored, nodes)?,
+            Saying::Ignore => state.aliases.add(state.alloc, &name, Role::Ignored, nodes)?,
             Saying::Always => {}
         }
         return Ok(Given::Alias(name));
