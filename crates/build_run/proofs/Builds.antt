@@ -114,15 +114,16 @@ module _ {W : Type 0} (m : Meaning W) (g : RuleGraph) (requested : List NodeId) 
       build_ran answer same = λ tells sure below. has_run answer same tells sure below
 
       -- and what it printed
-      pub build_printed : {O : Type 0} (p : SinkMeaning O) (out new_out : O) → MakesPrinted m p h run mid b account options out c new_out →
+      pub build_printed : {O : Type 0} (p : SinkMeaning O) (out new_out : O) → MakesPrinted m p h run mid b account options out c after new_out →
           (answer : BuildEnd) → answer.is_ended ≡ after.is_ended → BuildPrints m p w (map_of store) options a out c new_out (map_of last) answer
       build_printed p out new_out prints answer same = record {
         told = prints.told;
         prints = λ tells sure shows below. record {
           ran = has_run answer same tells sure below;
-          printed = prints.prints tells sure shows (o (told tells) below) (ready (told tells) below);
+          printed = (prints.prints tells sure shows (o (told tells) below) (ready (told tells) below)).has;
+          none = λ e. (prints.prints tells sure shows (o (told tells) below) (ready (told tells) below)).none (sym same ∙ e);
           steps = steps_printed p (o (told tells) below) (ready (told tells) below).outset options (m.around c) out new_out (made tells sure below).runs
-              (prints.prints tells sure shows (o (told tells) below) (ready (told tells) below));
+              (prints.prints tells sure shows (o (told tells) below) (ready (told tells) below)).has;
         };
       }
 
@@ -176,6 +177,7 @@ module _ {W : Type 0} (m : Meaning W) (g : RuleGraph) (requested : List NodeId) 
     prints = λ tells sure shows below. record {
       ran = has_refused back leaves answer ended tells;
       printed = none_printed p (begun_here tells below) options (m.around c) out refl;
+      none = λ e. true_false (sym ended ∙ e);
       steps = steps_printed p (begun_here tells below) (record { reading = read; below = below }) options (m.around c) out out
           (has_refused back leaves answer ended tells).runs (none_printed p (begun_here tells below) options (m.around c) out refl);
     };

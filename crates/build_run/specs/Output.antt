@@ -22,7 +22,7 @@ use Rattle.turn_means.specs.Writing.{Writes}
 use Rattle.build_run.specs.Along.{IsAlong, IsDue, IsWantedOf, standing_of}
 use Rattle.build_run.specs.Outsets.{HasRun, IsReadyFor}
 use Rattle.build_run.specs.Sites.{most_jobs}
-use Rattle.build_run.specs.StartTexts.{AreStepTexts, HasOwnText, HasPrinted}
+use Rattle.build_run.specs.StartTexts.{AreStepTexts, EndsPrinted, HasOwnText, HasPrinted}
 use Rattle.build_run.specs.Whys.{IsWhyText, TellsReason}
 use Rattle.build_run.specs.declared.account.Account.{Account}
 use Rattle.build_run.specs.declared.building.Options.{Options}
@@ -104,10 +104,10 @@ pub record StartsPrinting {W O E T : Type 0} (m : Meaning W) (p : SinkMeaning O)
 
 -- all that is made is printed, whatever the build began with
 pub record MakesPrinted {W O : Type 0} (m : Meaning W) (p : SinkMeaning O) (g : RuleGraph) (run : Run) (store : Store) (world : W) (account : Account)
-    (options : Options) (out : O) (new : W) (new_out : O) : Type 0 where
+    (options : Options) (out : O) (new : W) (new_account : Account) (new_out : O) : Type 0 where
   pub told : p.tells new_out → p.tells out
   pub prints : m.tells new → m.sure new → p.tells new_out → (o : Outset) → IsReadyFor m o g run store world account options →
-      HasPrinted p o options (m.around new) out new_out
+      EndsPrinted p o options (m.around new) out new_out new_account.is_ended
 
 -- what a run of a build began with
 abbrev pub outset_of : {W : Type 0} (m : Meaning W) (w : Wanted) (map : Map) (old new : W) (behind : Map) (ended : Bool) →
@@ -119,6 +119,8 @@ pub record HasRunPrinting {W O : Type 0} (m : Meaning W) (p : SinkMeaning O) (w 
     (new : W) (new_out : O) (behind : Map) (ended : Bool) : Type 0 where
   pub ran : HasRun m w map old new behind ended
   pub printed : HasPrinted p (outset_of m w map old new behind ended ran) options (m.around new) out new_out
+  -- nothing else stands behind them, unless a fault came after which nothing new starts
+  pub none : ended ≡ false → printed.rest ≡ []
   pub steps : AreStepTexts (HasOwnText (outset_of m w map old new behind ended ran) options (m.around new)) ran.runs.steps printed.text
 
 -- So builds do, in a world that tells and is sure, where the requested nodes are the graph's, and where standard output tells.

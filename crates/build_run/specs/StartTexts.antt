@@ -111,3 +111,8 @@ pub record HasPrinted {O : Type 0} (p : SinkMeaning O) (o : Outset) (options : O
   pub is_rest : IsRest o options (Rose (p.faults out) (p.faults new)) entries rest
   pub printed : p.text new ≡ p.text out ++ (text ++ rest)
   pub later : p.faults out ≤ p.faults new
+
+-- And it printed no more than the texts of these, unless a fault came after which nothing new starts.
+pub record EndsPrinted {O : Type 0} (p : SinkMeaning O) (o : Outset) (options : Options) (around : Around) (out new : O) (ended : Bool) : Type 0 where
+  pub has : HasPrinted p o options around out new
+  pub none : ended ≡ false → has.rest ≡ []

@@ -190,7 +190,7 @@ fn make_all<W: World, O: Sink, E: Sink>(
     ensures safe { MakesSafely W.meaning graph.old run.old store.old world.old account.old options world.new }
     ensures reason { KeepsReason options.keep account.old account.new }
     ensures texts { KeepsTold E.meaning err.old account.old err.new account.new }
-    ensures prints { MakesPrinted W.meaning O.meaning graph.old run.old store.old world.old account.old options out.old world.new out.new }
+    ensures prints { MakesPrinted W.meaning O.meaning graph.old run.old store.old world.old account.old options out.old world.new account.new out.new }
 {
     finished_succeed();
     let mut site = Site {

@@ -1,5 +1,6 @@
 use Rattle.std.proofs.Common.{◌∙◌, ap, rules}
 use Rattle.sign_store.specs.Stores.{map_of}
+use Rattle.build_run.proofs.Choosing.{goes_before}
 use Rattle.build_run.proofs.BuildPrinting.{goes_printed, makes_given}
 use Rattle.build_run.proofs.Finishing.{first_along, has_made, made_given}
 use Rattle.build_run.proofs.Lending.{accounts_given, idle_given, kept_closed, passes_given, stored_given}
@@ -82,7 +83,10 @@ returns-clause-prints g c =
     let passes = c.go_on.ensures.passes.same in
     let lent_world = same.world ∙ passes.world in
     let lent_out = same.out ∙ passes.out in
-    makes_given m p _ _ _ _ _ _ _ c.close.new.self mid.world.now _ mid.out.now _ (search rules) (search rules) c.close.ensures.world c.close.ensures.out
+    let lent_account = same.account ∙ passes.account in
+    makes_given m p _ _ _ _ _ _ _ c.close.new.self mid.world.now _ mid.account.now c.account-1.given.0 mid.out.now _ (search rules) (search rules)
+    (search rules) c.close.ensures.world c.close.ensures.out
+    (λ e. goes_before mid.account.now c.close.new.self.account.now c.close.ensures.ends e)
     (goes_printed m p _ mid c.requires.held c.requires.none passes.options c.go_on.ensures.printing)
 
 pub returns-clause-texts : goal.returns-clause-texts
