@@ -1,4 +1,5 @@
 //! What is told of the place where the form of a script is at fault.
+use crate::byte_text::told_of_byte;
 use py_lex::{LexKind, lex};
 use py_parse::ParseKind;
 use py_token::{Mark, Token, TokenKind};
@@ -7,13 +8,15 @@ use std::alloc::Global;
 
 type Told = Result<Text, Memory>;
 
-/// What is told of a fault on this line that leaves a script without tokens: of a bracket that isn't closed which it is, and its line.
+/// What is told of a fault on this line that leaves a script without tokens: of a bracket that isn't closed which it is, and its line,
+/// and what begins no token.
 pub fn told_of_bytes(alloc: Global, kind: LexKind, line: u32, script: &[u8]) -> Told {
     match kind {
         LexKind::Unclosed => match unclosed(alloc, line, script)? {
             Some(bracket) => with_bracket(alloc, "", bracket),
             None => Text::of(alloc, "a text"),
         },
+        LexKind::BadByte => told_of_byte(alloc, line, script),
         _ => Text::of(alloc, ""),
     }
 }

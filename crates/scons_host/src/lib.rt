@@ -8,6 +8,7 @@
 mod answers;
 mod asked;
 mod asks;
+mod byte_text;
 mod called;
 mod calls;
 mod declaring;
