@@ -207,7 +207,7 @@ build_done m said g requested store old begun new behind answer status begins to
 
 -- a run that had looked before
 
-ends_looked : {W : Type 0} (m : Meaning W) (a b new : W) → Looks m a b → EndsBefore m b new → EndsBefore m a new
+pub ends_looked : {W : Type 0} (m : Meaning W) (a b new : W) → Looks m a b → EndsBefore m b new → EndsBefore m a new
 ends_looked m a b new looks (inl more) = inl (looks_joined m a b new looks more)
 ends_looked m a b new looks (inr begun) =
     inr (record { looked = begun.looked; looks = looks_joined m a b begun.looked looks begun.looks; begins = begun.begins })

@@ -540,6 +540,9 @@ look_exit_as a b (Err x) e is h = subst (HasEndCause a b) (sym is) h
 pub look_back : (a b c : Counts) (e : ListEnd) → b ≡ a → HasEndCause b c e → HasEndCause a c e
 look_back a b c e same h = subst (λ x. HasEndCause x c e) same h
 
+pub look_after : {T : Type 0} (a b c : Counts) (r : Result T ListEnd) → b ≡ a → HasLookCause b c r → HasLookCause a c r
+look_after a b c r same h = subst (λ x. HasLookCause x c r) same h
+
 -- a step with no call outside that ends for a stop of its own
 pub inner_exit : {T : Type 0} (r : Result T Stop) → IsErrAnd r IsInside → InnerStep r
 inner_exit (Ok value) is = absurd is

@@ -4,5 +4,8 @@ mod Causing
 mod Reporting
 mod Requesting
 mod Building
+mod Stepping
+mod Clearing
+mod Opening
 mod Stopping
 mod Shown

@@ -1,12 +1,13 @@
 -- Nodes of a graph among what is requested, also as the graph gets more of them.
-use Rattle.std.proofs.Common.{◌≡◌, ◌<◌, ◌++◌, ◌∷◌, ◌&&◌, [], Bool, true, List, length, refl, sym, subst, arith}
+use Rattle.std.proofs.Common.{◌≡◌, ◌∙◌, ◌<◌, ◌+◌, ◌++◌, ◌∷◌, ◌&&◌, [], ℕ, Bool, true, List, length, get_or, take, ap, refl, sym, subst, append_assoc, append-nil, arith}
 use Rattle.std.specs.Prelude.{nat_lt}
 use Rattle.std.proofs.lemmas.Bool.{lt-ltb}
-use Rattle.std.proofs.lemmas.List.Elements.{All-weaker, All-push, All-head, All-tail}
+use Rattle.std.proofs.lemmas.List.{take_more}
+use Rattle.std.proofs.lemmas.List.Elements.{All-weaker, All-push, All-head, All-tail, All-append, All-get_or}
 use Rattle.scons_base.specs.declared.ids.NodeId.{NodeId}
 use Rattle.rule_graph.specs.Graphs.{RuleGraph}
 use Rattle.rule_graph.specs.Rules.{are_below}
-use Rattle.scons_top.specs.Requested.{AreNodes, AsksForNodes, AskForNodes, HasMore}
+use Rattle.scons_top.specs.Requested.{AreNodes, AsksForNodes, AskForNodes, HasMore, nodes_asked}
 use Rattle.scons_top.specs.declared.requests.Request.{Request}
 
 -- a graph that has more nodes
@@ -25,6 +26,26 @@ pub asks_pushed : (g h : RuleGraph) (old new : List Request) (request : Request)
     → AskForNodes g old → AsksForNodes h request → AskForNodes h new
 asks_pushed g h old new request more same all one =
     subst (AskForNodes h) (sym same) (All-push (AsksForNodes h) old request (asks_more g h old more all) one)
+
+-- what all of some requests stand for
+
+asked_append : (front rest : List Request) → nodes_asked (front ++ rest) ≡ nodes_asked front ++ nodes_asked rest
+asked_append [] rest = refl
+asked_append (request ∷ front) rest = ap (λ l. request.nodes.items ++ l) (asked_append front rest) ∙ sym (append_assoc request.nodes.items (nodes_asked front) (nodes_asked rest))
+
+pub asked_more : (requests : List Request) (i : ℕ) (d : Request) (old new : List NodeId) → i < length requests → old ≡ nodes_asked (take i requests)
+    → new ≡ old ++ (get_or requests i d).nodes.items → new ≡ nodes_asked (take (i + 1) requests)
+asked_more requests i d old new lt was is =
+    is ∙ ap (λ l. l ++ (get_or requests i d).nodes.items) was
+    ∙ sym (ap nodes_asked (take_more requests i d lt) ∙ asked_append (take i requests) (get_or requests i d ∷ [])
+    ∙ ap (λ l. nodes_asked (take i requests) ++ l) (append-nil (get_or requests i d).nodes.items))
+
+pub nodes_added : (g : RuleGraph) (requests : List Request) (i : ℕ) (d : Request) (old slice new : List NodeId) → i < length requests → d ≡ get_or requests i d
+    → slice ≡ d.nodes.items → new ≡ old ++ slice → AskForNodes g requests → AreNodes g old → AreNodes g new
+nodes_added g requests i d old slice new lt at of is asks before =
+    let P = λ (node : NodeId). node.0 < length g.nodes in
+    let one : AsksForNodes g d = subst (AsksForNodes g) (sym at) (All-get_or (AsksForNodes g) requests i d lt asks) in
+    subst (AreNodes g) (sym is) (All-append P old slice before (subst (AreNodes g) (sym of) one))
 
 -- as a test
 

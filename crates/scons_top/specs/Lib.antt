@@ -1,8 +1,11 @@
 pub mod Builds
 pub mod Causes
+pub mod Cleaned
 pub mod Endings
 pub mod Faults
+pub mod Foreign
 pub mod Requested
+pub mod Steps
 pub mod Stopping
 pub mod Stops
 pub mod Texts

@@ -1,5 +1,5 @@
 -- What is requested: nodes of the graph.
-use Rattle.std.specs.Prelude.{◌≤◌, ◌<◌, ℕ, List, length, All, Result, IfOk, IfSome, Vec}
+use Rattle.std.specs.Prelude.{◌≤◌, ◌<◌, ◌++◌, ◌∷◌, [], ℕ, List, length, All, Result, IfOk, IfSome, Vec}
 use Rattle.scons_base.specs.declared.ids.NodeId.{NodeId}
 use Rattle.rule_graph.specs.Graphs.{RuleGraph}
 use Rattle.scons_top.specs.declared.below.Below.{Below}
@@ -31,6 +31,11 @@ AsksForNodes g request = AreNodes g request.nodes.items
 
 abbrev pub AskForNodes : RuleGraph → List Request → Type 0
 AskForNodes g requests = All (AsksForNodes g) requests
+
+-- what all requests stand for, in their order
+abbrev pub nodes_asked : List Request → List NodeId
+nodes_asked [] = []
+nodes_asked (request ∷ requests) = request.nodes.items ++ nodes_asked requests
 
 -- no node went
 abbrev pub HasMore : RuleGraph → RuleGraph → Type 0

@@ -2,11 +2,14 @@
 ghost use Rattle.std.specs.Prelude.{◌≡◌, [], true, false, IfOk, IfErr};
 ghost use Rattle.build_run.specs.Goings.{Passes, Goes};
 ghost use Rattle.scons_top.specs.Faults.{IsLateStop, EarlyOnlyIf};
+ghost use Rattle.scons_top.specs.Foreign.{RunByBytes, StepByBytes};
+ghost use Rattle.sign_store.specs.Readings.{AreReadable};
 ghost use Rattle.world_api.specs.Statuses.{HasStatus};
 ghost use Rattle.rule_graph.specs.Graphs.{RuleGraph};
 ghost use Rattle.sign_store.specs.Stores.{IsKept, is_live, HasMapOf};
 ghost use Rattle.scons_top.specs.Builds.{BeginsStore, RunBuilds};
-ghost use Rattle.scons_top.specs.Requested.{AskForNodes, GivesNodes};
+ghost use Rattle.scons_top.specs.Steps.{IsBuildingStep, LeavesAt, RunEndsAt, StopsAt};
+ghost use Rattle.scons_top.specs.Requested.{AskForNodes, GivesNodes, nodes_asked};
 ghost use Rattle.scons_top.specs.Stopping.{RunsSafely};
 ghost use Rattle.scons_top.specs.Stops.{Reports, SinkStep, WorldStep};
 
@@ -14,6 +17,7 @@ use crate::ending::{closed, tell_done, tell_faulty};
 use crate::printed::say;
 use crate::report::Report;
 use crate::requests::Request;
+use crate::step::Step;
 use crate::stop::Stop;
 use crate::tree_step::tell_trees;
 use build_run::{BuildEnd, Options, build};
@@ -34,9 +38,14 @@ pub(crate) fn build_requests<W: World, O: Sink, E: Sink>(
     world: &mut W,
     out: &mut O,
     err: &mut E,
+    at: &mut Step,
 ) -> Result<Report, Stop>
     requires unclosed { W.meaning.closed world.old ≡ [] }
     requires idle { W.meaning.tells world.old → (W.meaning.around world.old).running ≡ [] }
+    ensures building { IsBuildingStep at.new }
+    ensures ends { RunEndsAt at.new result }
+    ensures bytes { RunByBytes W.meaning at.new world.old world.new result }
+    ensures leaves { LeavesAt W.meaning at.new world.old world.new }
     ensures passes { Passes W.meaning world.old world.new }
     ensures reports { Reports W.meaning O.meaning E.meaning world.old out.old err.old world.new out.new err.new result }
     ensures idle { W.meaning.tells world.new → (W.meaning.around world.new).running ≡ [] }
@@ -46,8 +55,10 @@ pub(crate) fn build_requests<W: World, O: Sink, E: Sink>(
     ensures builds { AskForNodes graph.old requests.now → RunBuilds W.meaning words.now world.old world.new result }
     ensures safe { AskForNodes graph.old requests.now → RunsSafely W.meaning world.old world.new }
 {
+    *at = Step::Store;
     let nodes = nodes_of(alloc, requests)?;
     let mut store = begin_store(alloc, world)?;
+    *at = Step::Building;
     say(out, words, building_text(alloc))?;
     let options = Options {
         jobs: words.jobs,
@@ -74,7 +85,14 @@ pub(crate) fn build_requests<W: World, O: Sink, E: Sink>(
         ));
     }
     let written = tell_end(alloc, graph, words, requests, &end, out);
-    Ok(closed(alloc, end.faults, end.skipped, end.memory, written))
+    Ok(closed(
+        alloc,
+        end.faults,
+        end.skipped,
+        end.memory,
+        written,
+        Step::Building,
+    ))
 }
 
 #[tactic(auto, using(crate::proofs::Causing::causing))]
@@ -83,6 +101,9 @@ fn begin_store<W: World>(alloc: Global, world: &mut W) -> Result<Store, Stop>
     ensures step { WorldStep (W.meaning.counts world.old) (W.meaning.counts world.new) result }
     ensures live { IfOk result (λ store. is_live store ≡ true) }
     ensures keeps { IfOk result (IsKept W.meaning world.new) }
+    ensures stops { IfErr result (StopsAt Step.Store) }
+    ensures bytes { StepByBytes W.meaning world.old world.new result }
+    ensures readable { W.meaning.tells world.new → IfOk result (λ store. AreReadable (W.meaning.seen world.old)) }
     ensures late { IfErr result IsLateStop }
     ensures begins { BeginsStore W.meaning world.old world.new }
     ensures map { W.meaning.tells world.new → IfOk result (HasMapOf (W.meaning.seen world.old)) }
@@ -103,7 +124,8 @@ fn has_trees(words: &Words, end: &BuildEnd) -> bool
 
 /// The requested nodes, in order.
 pub(crate) fn nodes_of(alloc: Global, requests: &[Request]) -> Result<Vec<NodeId>, Memory>
-    ensures { (graph : RuleGraph) → AskForNodes graph requests.now → GivesNodes graph result }
+    ensures are { IfOk result (λ nodes. nodes.items ≡ nodes_asked requests.now) }
+    ensures nodes { (graph : RuleGraph) → AskForNodes graph requests.now → GivesNodes graph result }
 {
     let mut nodes = Vec::new(alloc);
     for request in requests {

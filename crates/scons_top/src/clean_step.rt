@@ -1,7 +1,12 @@
 //! Cleaning: the targets of what was requested are removed.
-ghost use Rattle.std.specs.Prelude.{◌≡◌, [], IfOk, IfErr, IsTrue};
+ghost use Rattle.std.specs.Prelude.{◌≡◌, ◌∷◌, [], None, IfOk, IfErr, OnOk, IsTrue, is_some};
 ghost use Rattle.build_files.specs.Causes.{HasLookCause};
+ghost use Rattle.build_means.specs.Rules.{paths_of};
 ghost use Rattle.build_run.specs.Goings.{Stays};
+ghost use Rattle.scons_report.specs.Cleaning.{rules_numbered};
+ghost use Rattle.scons_top.specs.Cleaned.{AreRemoved, CleansAsked, Cleared, is_file_kind, targets_of};
+ghost use Rattle.scons_top.specs.Requested.{AskForNodes, nodes_asked};
+ghost use Rattle.scons_top.specs.Steps.{IsTreeEnd, RunEndsAt, StopsAt};
 ghost use Rattle.scons_top.specs.Stops.{OutSteps, OutReports};
 ghost use Rattle.scons_top.specs.Faults.{IsLateStop};
 ghost use Rattle.scons_top.specs.Stopping.{StepsSafely};
@@ -12,7 +17,8 @@ use crate::build_step::nodes_of;
 use crate::ending::good;
 use crate::printed::{say, tell};
 use crate::report::Report;
-use crate::requests::{Request, kind_of};
+use crate::requests::Request;
+use crate::step::Step;
 use crate::stop::Stop;
 use build_files::{path_of, rule_at};
 use rule_graph::Graph;
@@ -33,6 +39,8 @@ pub(crate) fn clean_requests<W: World, O: Sink>(
     out: &mut O,
 ) -> Result<Report, Stop>
     requires idle { W.meaning.tells world.old → (W.meaning.around world.old).running ≡ [] }
+    ensures ends { RunEndsAt Step.Cleaning result }
+    ensures cleans { AskForNodes graph.now requests.now → CleansAsked W.meaning words.now graph.now (nodes_asked requests.now) world.old world.new result }
     ensures stays { Stays W.meaning world.old world.new }
     ensures safe { StepsSafely W.meaning world.old world.new }
     ensures reports { OutReports W.meaning O.meaning world.old out.old world.new out.new result }
@@ -46,7 +54,7 @@ pub(crate) fn clean_requests<W: World, O: Sink>(
     let rules = clean_list(alloc, graph, nodes.as_slice())?;
     clean_rules(alloc, graph, words, rules.as_slice(), world, out)?;
     say(out, words, cleaned_text(alloc))?;
-    Ok(good(alloc))
+    Ok(good(alloc, Step::Cleaning))
 }
 
 #[tactic(auto, using(crate::proofs::Watching::standing))]
@@ -59,6 +67,9 @@ fn clean_rules<W: World, O: Sink>(
     out: &mut O,
 ) -> Result<(), Stop>
     requires idle { W.meaning.tells world.old → (W.meaning.around world.old).running ≡ [] }
+    ensures cleared { Cleared W.meaning (targets_of (rules_numbered graph.now rules.now)) world.old world.new }
+    ensures gone { OnOk result (AreRemoved W.meaning words.now (targets_of (rules_numbered graph.now rules.now)) world.new) }
+    ensures stops { IfErr result (StopsAt Step.Cleaning) }
     ensures stays { Stays W.meaning world.old world.new }
     ensures safe { StepsSafely W.meaning world.old world.new }
     ensures steps { OutSteps W.meaning O.meaning world.old out.old world.new out.new result }
@@ -82,6 +93,9 @@ fn clean_all<W: World, O: Sink>(
     out: &mut O,
 ) -> Result<(), Stop>
     requires idle { W.meaning.tells world.old → (W.meaning.around world.old).running ≡ [] }
+    ensures cleared { Cleared W.meaning (paths_of graph.now targets.now) world.old world.new }
+    ensures gone { OnOk result (AreRemoved W.meaning words.now (paths_of graph.now targets.now) world.new) }
+    ensures stops { IfErr result (StopsAt Step.Cleaning) }
     ensures stays { Stays W.meaning world.old world.new }
     ensures safe { StepsSafely W.meaning world.old world.new }
     ensures steps { OutSteps W.meaning O.meaning world.old out.old world.new out.new result }
@@ -103,6 +117,9 @@ fn clean<W: World, O: Sink>(
     out: &mut O,
 ) -> Result<(), Stop>
     requires idle { W.meaning.tells world.old → (W.meaning.around world.old).running ≡ [] }
+    ensures cleared { Cleared W.meaning (path.now ∷ []) world.old world.new }
+    ensures gone { OnOk result (AreRemoved W.meaning words.now (path.now ∷ []) world.new) }
+    ensures stops { IfErr result (StopsAt Step.Cleaning) }
     ensures stays { Stays W.meaning world.old world.new }
     ensures safe { StepsSafely W.meaning world.old world.new }
     ensures steps { OutSteps W.meaning O.meaning world.old out.old world.new out.new result }
@@ -118,14 +135,32 @@ fn clean<W: World, O: Sink>(
 /// Removes a target that is a file, and says whether it was one. With `-n` it isn't removed.
 fn is_removed<W: World>(words: &Words, world: &mut W, path: &PathText) -> Result<bool, ListEnd>
     requires idle { W.meaning.tells world.old → (W.meaning.around world.old).running ≡ [] }
+    ensures cleared { Cleared W.meaning (path.now ∷ []) world.old world.new }
+    ensures gone { OnOk result (AreRemoved W.meaning words.now (path.now ∷ []) world.new) }
+    ensures tree { IfErr result IsTreeEnd }
     ensures stays { Stays W.meaning world.old world.new }
     ensures safe { StepsSafely W.meaning world.old world.new }
     ensures cause { HasLookCause (W.meaning.counts world.old) (W.meaning.counts world.new) result }
     ensures dry { IsTrue words.now.dry → Watches W.meaning world.old world.new }
 {
-    if kind_of(world, path)? != Kind::File {
-        return Ok(false);
+    let stands = is_file(world, path)?;
+    if stands {
+        return take(words, world, path);
     }
+    Ok(false)
+}
+
+/// Removes a file, and says that there was one. With `-n` it isn't removed.
+fn take<W: World>(words: &Words, world: &mut W, path: &PathText) -> Result<bool, ListEnd>
+    requires idle { W.meaning.tells world.old → (W.meaning.around world.old).running ≡ [] }
+    ensures cleared { Cleared W.meaning (path.now ∷ []) world.old world.new }
+    ensures gone { OnOk result (AreRemoved W.meaning words.now (path.now ∷ []) world.new) }
+    ensures tree { IfErr result IsTreeEnd }
+    ensures stays { Stays W.meaning world.old world.new }
+    ensures safe { StepsSafely W.meaning world.old world.new }
+    ensures cause { HasLookCause (W.meaning.counts world.old) (W.meaning.counts world.new) result }
+    ensures dry { IsTrue words.now.dry → Watches W.meaning world.old world.new }
+{
     if words.dry {
         return Ok(true);
     }
@@ -133,9 +168,35 @@ fn is_removed<W: World>(words: &Words, world: &mut W, path: &PathText) -> Result
     Ok(true)
 }
 
+/// Whether a file stands at a path.
+#[tactic(auto, using(crate::proofs::Causing::causing))]
+fn is_file<W: World>(world: &mut W, path: &PathText) -> Result<bool, ListEnd>
+    ensures file { W.meaning.tells world.new → IfOk result (λ is. is ≡ is_some ((W.meaning.around world.new).tree path.now)) }
+    ensures tree { IfErr result IsTreeEnd }
+    ensures watches { Watches W.meaning world.old world.new }
+    ensures cause { HasLookCause (W.meaning.counts world.old) (W.meaning.counts world.new) result }
+{
+    match world.kind(path) {
+        Ok(kind) => Ok(names_file(kind)),
+        Err(_) => Err(ListEnd::tree(path)),
+    }
+}
+
+fn names_file(kind: Kind) -> bool
+    ensures { result ≡ is_file_kind kind }
+{
+    match kind {
+        Kind::File => true,
+        Kind::Absent | Kind::Dir => false,
+    }
+}
+
 #[tactic(auto, using(crate::proofs::Causing::causing))]
 fn remove<W: World>(world: &mut W, path: &PathText) -> Result<(), ListEnd>
     requires idle { W.meaning.tells world.old → (W.meaning.around world.old).running ≡ [] }
+    ensures cleared { Cleared W.meaning (path.now ∷ []) world.old world.new }
+    ensures gone { W.meaning.tells world.new → OnOk result ((W.meaning.around world.new).tree path.now ≡ None) }
+    ensures tree { IfErr result IsTreeEnd }
     ensures stays { Stays W.meaning world.old world.new }
     ensures safe { StepsSafely W.meaning world.old world.new }
     ensures cause { HasLookCause (W.meaning.counts world.old) (W.meaning.counts world.new) result }

@@ -1,11 +1,14 @@
 //! A dry run: what a build would start is listed.
 ghost use Rattle.std.specs.Prelude.{◌≡◌, ◌++◌, ◌∷◌, [], true, false, IfOk, IfErr};
 ghost use Rattle.scons_top.specs.Faults.{IsLateStop, EarlyOnlyIf};
+ghost use Rattle.scons_top.specs.Foreign.{RunByBytes};
+ghost use Rattle.sign_store.specs.Readings.{AreReadable, IsRefusal};
 ghost use Rattle.world_api.specs.Statuses.{HasStatus};
 ghost use Rattle.scons_report.specs.Causes.{HasListCause};
 ghost use Rattle.sign_store.specs.Reached.{HasFaultCause};
 ghost use Rattle.scons_top.specs.Endings.{ListEnds, AddsUnprinted};
-ghost use Rattle.scons_top.specs.Stops.{SinkReports, Reports};
+ghost use Rattle.scons_top.specs.Steps.{ComesAt, IsListingStep, RunEndsAt};
+ghost use Rattle.scons_top.specs.Stops.{SinkReports, Reports, top_of};
 ghost use Rattle.scons_top.specs.Watching.{Watches};
 
 use crate::build_step::nodes_of;
@@ -13,6 +16,7 @@ use crate::ending::{closed, good, tell_done, tell_faulty};
 use crate::printed::{say, tell};
 use crate::report::Report;
 use crate::requests::Request;
+use crate::step::Step;
 use crate::stop::Stop;
 use rule_graph::{BuildFault, Graph};
 use scons_base::{Listing, Memory, NodeId, RuleId};
@@ -32,25 +36,33 @@ pub(crate) fn list_requests<W: World, O: Sink, E: Sink>(
     world: &mut W,
     out: &mut O,
     err: &mut E,
+    at: &mut Step,
 ) -> Result<Report, Stop>
+    ensures listing { IsListingStep at.new }
+    ensures ends { RunEndsAt at.new result }
+    ensures bytes { RunByBytes W.meaning at.new world.old world.new result }
     ensures watches { Watches W.meaning world.old world.new }
     ensures reports { Reports W.meaning O.meaning E.meaning world.old out.old err.old world.new out.new err.new result }
     ensures faults { IfOk result (λ report. EarlyOnlyIf ⊥ report.faults) }
     ensures status { IfOk result (λ report. HasStatus report.status report.faults) }
 {
+    *at = Step::Store;
     let nodes = nodes_of(alloc, requests)?;
     let view = view_of(alloc, world)?;
+    *at = Step::Listing;
     say(out, words, building_text(alloc))?;
     match list_of(alloc, graph, nodes.as_slice(), &view, words.hash, world) {
         Ok(rules) => tell_rules(alloc, graph, words, requests, rules.as_slice(), out),
         Err(ListEnd::Memory) => Err(Stop::Memory),
-        Err(ListEnd::Fault(fault)) => end_with(alloc, words, fault, out, err),
+        Err(ListEnd::Fault(fault)) => end_with(alloc, words, fault, out, err, Step::Listing),
     }
 }
 
 /// What the store holds.
 #[tactic(auto, using(crate::proofs::Causing::causing))]
 pub(crate) fn view_of<W: World>(alloc: Global, world: &mut W) -> Result<View, StoreRefusal>
+    ensures readable { W.meaning.tells world.new → IfOk result (λ view. AreReadable (W.meaning.seen world.old)) }
+    ensures refused { W.meaning.tells world.new → IfErr result (IsRefusal (W.meaning.seen world.old)) }
     ensures watches { Watches W.meaning world.old world.new }
     ensures cause { HasFaultCause W.meaning world.old world.new result }
 {
@@ -82,6 +94,7 @@ fn tell_rules<O: Sink>(
     rules: &[RuleId],
     out: &mut O,
 ) -> Result<Report, Stop>
+    ensures ends { RunEndsAt Step.Listing result }
     ensures reports { SinkReports O.meaning out.old out.new result }
     ensures faults { IfOk result (λ report. EarlyOnlyIf ⊥ report.faults) }
     ensures status { IfOk result (λ report. HasStatus report.status report.faults) }
@@ -90,7 +103,7 @@ fn tell_rules<O: Sink>(
         tell(out, words, lines_of(alloc, graph, *rule))?;
     }
     tell_done(alloc, graph, words, requests, rules, out)?;
-    Ok(good(alloc))
+    Ok(good(alloc, Step::Listing))
 }
 
 /// The lines of a rule. A list names rules of its graph alone; another would be answered as want of memory is.
@@ -109,7 +122,9 @@ pub(crate) fn end_with<O: Sink, E: Sink>(
     fault: BuildFault,
     out: &mut O,
     err: &mut E,
+    step: Step,
 ) -> Result<Report, Stop>
+    ensures ends { ComesAt step (top_of fault) → RunEndsAt step result }
     ensures late { IfErr result IsLateStop }
     ensures faults { IfOk result (λ report. EarlyOnlyIf ⊥ report.faults) }
     ensures status { IfOk result (λ report. HasStatus report.status report.faults) }
@@ -121,7 +136,14 @@ pub(crate) fn end_with<O: Sink, E: Sink>(
     let printed = print(err, text.as_str());
     let written = tell_faulty(alloc, words, faults.as_slice(), out);
     let lost = add_unprinted(&mut faults, printed);
-    Ok(closed(alloc, faults, Listing::empty(alloc), lost, written))
+    Ok(closed(
+        alloc,
+        faults,
+        Listing::empty(alloc),
+        lost,
+        written,
+        step,
+    ))
 }
 
 /// Adds the fault that a text wasn't printed, and says whether memory was wanting.

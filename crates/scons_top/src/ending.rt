@@ -2,6 +2,7 @@
 ghost use Rattle.std.specs.Prelude.{◌≡◌, ◌≢◌, ◌++◌, ◌∷◌, [], true, false, All, Contains, map, IfOk, IfErr, OnOk, OnErr};
 ghost use Rattle.scons_top.specs.Faults.{IsEarly, IsEarlyStop, IsLate, IsLateStop, EarlyOnlyIf};
 ghost use Rattle.scons_top.specs.Endings.{ErrFinds, ErrEnds, ErrReports, AddsStopped, AddsUnwritten, Closes};
+ghost use Rattle.scons_top.specs.Steps.{AllComeAt, AllFoundAt, IsFaultOr, IsStopOr, IsTold, RunEndsAt, ReportsAt};
 ghost use Rattle.scons_top.specs.Stops.{SinkStep, SinkReports, top_of};
 ghost use Rattle.scons_top.specs.declared.report.Top.{Top};
 ghost use Rattle.world_api.specs.Statuses.{HasStatus};
@@ -9,6 +10,7 @@ ghost use Rattle.world_api.specs.Statuses.{HasStatus};
 use crate::printed::{print_text, say, tell};
 use crate::report::{Report, Top};
 use crate::requests::Request;
+use crate::step::Step;
 use crate::stop::Stop;
 use crate::texts::top_text;
 use rule_graph::{BuildFault, Graph};
@@ -20,12 +22,14 @@ use scons_words::Words;
 use std::alloc::Global;
 use world_api::{Sink, print};
 
-/// A report with these faults.
+/// A report with these faults of a run that ended at this step.
 pub(crate) fn report(
     faults: Listing<Top>,
     skipped: Listing<(PathText, PathText)>,
     memory: bool,
+    step: Step,
 ) -> Report
+    ensures at { result.step ≡ step }
     ensures faults { result.faults ≡ faults }
     ensures status { HasStatus result.status result.faults }
     ensures memory { result.status ≢ 3 → memory ≡ false }
@@ -37,17 +41,19 @@ pub(crate) fn report(
     };
     Report {
         status,
+        step,
         faults,
         skipped,
     }
 }
 
 /// The report of a run without a fault.
-pub(crate) fn good(alloc: Global) -> Report
+pub(crate) fn good(alloc: Global, step: Step) -> Report
+    ensures ends { ReportsAt step result }
     ensures faults { result.faults ≡ [] }
     ensures status { HasStatus result.status result.faults }
 {
-    report(Listing::empty(alloc), Listing::empty(alloc), false)
+    report(Listing::empty(alloc), Listing::empty(alloc), false, step)
 }
 
 /// Prints the one text of a run without a fault.
@@ -55,17 +61,22 @@ pub(crate) fn show<O: Sink>(
     alloc: Global,
     out: &mut O,
     text: Result<String, Memory>,
+    step: Step,
 ) -> Result<Report, Stop>
+    ensures ends { RunEndsAt step result }
     ensures reports { SinkReports O.meaning out.old out.new result }
     ensures faults { IfOk result (λ report. report.faults ≡ []) }
     ensures status { IfOk result (λ report. HasStatus report.status report.faults) }
 {
     print_text(out, text)?;
-    Ok(good(alloc))
+    Ok(good(alloc, step))
 }
 
 /// The report of a run that one fault ended: it is printed, and, where standard error refuses, so is that.
-pub(crate) fn ended<E: Sink>(alloc: Global, stop: Stop, err: &mut E) -> Report
+pub(crate) fn ended<E: Sink>(alloc: Global, stop: Stop, step: Step, err: &mut E) -> Report
+    ensures at { result.step ≡ step }
+    ensures alone { All (IsStopOr stop) result.faults }
+    ensures told { result.status ≢ 3 → IsTold stop result.faults }
     ensures early { EarlyOnlyIf (IsEarlyStop stop) result.faults }
     ensures status { HasStatus result.status result.faults }
     ensures fails { result.status ≢ 0 }
@@ -74,18 +85,27 @@ pub(crate) fn ended<E: Sink>(alloc: Global, stop: Stop, err: &mut E) -> Report
     match stop {
         Stop::Fault(fault) => {
             let text = top_text(alloc, &fault);
-            kept(alloc, err, fault, text)
+            kept(alloc, err, fault, text, step)
         }
         Stop::Build(fault) => {
             let text = fault_text(alloc, &fault);
-            kept(alloc, err, Top::from(fault), text)
+            kept(alloc, err, Top::from(fault), text, step)
         }
-        Stop::Memory => report(Listing::empty(alloc), Listing::empty(alloc), true),
+        Stop::Memory => report(Listing::empty(alloc), Listing::empty(alloc), true, step),
     }
 }
 
 /// Prints the text of a fault and reports the fault.
-fn kept<E: Sink>(alloc: Global, err: &mut E, fault: Top, text: Result<String, Memory>) -> Report
+fn kept<E: Sink>(
+    alloc: Global,
+    err: &mut E,
+    fault: Top,
+    text: Result<String, Memory>,
+    step: Step,
+) -> Report
+    ensures at { result.step ≡ step }
+    ensures alone { All (IsFaultOr fault) result.faults }
+    ensures told { result.status ≢ 3 → Contains result.faults fault }
     ensures early { EarlyOnlyIf (IsEarly fault) result.faults }
     ensures status { HasStatus result.status result.faults }
     ensures fails { result.status ≢ 0 }
@@ -93,8 +113,8 @@ fn kept<E: Sink>(alloc: Global, err: &mut E, fault: Top, text: Result<String, Me
 {
     let mut faults = Listing::empty(alloc);
     match keep(err, fault, text, &mut faults) {
-        Ok(()) => report(faults, Listing::empty(alloc), false),
-        Err(_) => report(faults, Listing::empty(alloc), true),
+        Ok(()) => report(faults, Listing::empty(alloc), false, step),
+        Err(_) => report(faults, Listing::empty(alloc), true, step),
     }
 }
 
@@ -105,6 +125,8 @@ fn keep<E: Sink>(
     text: Result<String, Memory>,
     faults: &mut Listing<Top>,
 ) -> Result<(), Memory>
+    ensures alone { All (IsFaultOr fault) faults.old → All (IsFaultOr fault) faults.new }
+    ensures holds { OnOk result (Contains faults.new fault) }
     ensures early { EarlyOnlyIf (IsEarly fault) faults.old → EarlyOnlyIf (IsEarly fault) faults.new }
     ensures some { OnOk result (faults.new ≢ []) }
     ensures finds { OnOk result (ErrFinds E.meaning err.old err.new (faults.old ++ fault ∷ []) faults.new false) }
@@ -229,7 +251,10 @@ pub(crate) fn closed(
     skipped: Listing<(PathText, PathText)>,
     memory: bool,
     written: Result<(), Stop>,
+    step: Step,
 ) -> Report
+    ensures at { result.step ≡ step }
+    ensures ends { AllFoundAt step found → AllComeAt step result.faults }
     ensures late { EarlyOnlyIf ⊥ result.faults }
     ensures status { HasStatus result.status result.faults }
     ensures well { result.status ≡ 0 → (found ≡ []) × (memory ≡ false) }
@@ -238,7 +263,7 @@ pub(crate) fn closed(
     let mut faults = Listing::empty(alloc);
     let lacks = add_all(&mut faults, found);
     let lost = add_unwritten(&mut faults, written);
-    report(faults, skipped, was_wanting(memory, lacks, lost))
+    report(faults, skipped, was_wanting(memory, lacks, lost), step)
 }
 
 /// Whether memory was wanting for a build, for its faults or for the last one.

@@ -16,10 +16,12 @@ mod printed;
 mod reading;
 mod report;
 mod requests;
+mod step;
 mod stop;
 mod texts;
 mod top;
 mod tree_step;
 
 pub use report::{Report, Top};
+pub use step::Step;
 pub use top::scons;

@@ -3,10 +3,12 @@
 ghost use Rattle.std.specs.Prelude.{◌≡◌, [], IfOk};
 ghost use Rattle.world_api.specs.Statuses.{HasStatus};
 ghost use Rattle.world_mem.specs.AsAround.{around_of};
+ghost use Rattle.scons_top.specs.Steps.{RunEndsAt};
 ghost use Rattle.scons_top.specs.Stops.{SinkReports};
 
 use crate::ending::show;
 use crate::report::Report;
+use crate::step::Step;
 use crate::stop::Stop;
 use crate::top::run;
 use scons_base::{Blob, Listing, Memory, PathText, Paths, Texts};
@@ -23,11 +25,12 @@ pub(crate) fn load<O: Sink>(
     rules: u32,
     out: &mut O,
 ) -> Result<Report, Stop>
+    ensures ends { RunEndsAt Step.Load result }
     ensures faults { IfOk result (λ report. report.faults ≡ []) }
     ensures reports { SinkReports O.meaning out.old out.new result }
     ensures status { IfOk result (λ report. HasStatus report.status report.faults) }
 {
-    show(alloc, out, measured(alloc, words, rules))
+    show(alloc, out, measured(alloc, words, rules), Step::Load)
 }
 
 /// Builds twice over a world in memory, and gives the line that says so.
@@ -71,7 +74,8 @@ fn build_once(alloc: Global, words: &Words, world: &mut MemWorld) -> Result<(), 
 {
     let mut out = MemSink::new(alloc, Vec::new(alloc))?;
     let mut err = MemSink::new(alloc, Vec::new(alloc))?;
-    match run(alloc, words, world, &mut out, &mut err) {
+    let mut at = Step::Words;
+    match run(alloc, words, world, &mut out, &mut err, &mut at) {
         Ok(report) if report.status == 0 => Ok(()),
         _ => Err(Memory),
     }

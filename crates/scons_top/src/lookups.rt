@@ -1,12 +1,16 @@
 //! What is looked up for the words of a run: the targets below directories, and the records of former builds.
+ghost use Rattle.std.specs.Prelude.{IfErr};
 ghost use Rattle.build_files.specs.Causes.{HasLookCause};
 ghost use Rattle.rule_graph.specs.Graphs.{RuleGraph};
+ghost use Rattle.scons_top.specs.Foreign.{StepByBytes};
 ghost use Rattle.scons_top.specs.Requested.{KnowsNodes};
+ghost use Rattle.scons_top.specs.Steps.{StopsAt};
 ghost use Rattle.scons_top.specs.Stops.{WorldStep};
 ghost use Rattle.scons_top.specs.Watching.{Watches};
 
 use crate::below::Below;
 use crate::dry_step::view_of;
+use crate::step::Step;
 use crate::stop::Stop;
 use build_files::{ListEnd, is_copied, is_leftover};
 use deciders::Rec;
@@ -49,6 +53,8 @@ pub(crate) fn is_left_over<W: World>(
 ) -> Result<bool, Stop>
     ensures watches { Watches W.meaning world.old world.new }
     ensures step { WorldStep (W.meaning.counts world.old) (W.meaning.counts world.new) result }
+    ensures stops { IfErr result (StopsAt Step.Requests) }
+    ensures bytes { StepByBytes W.meaning world.old world.new result }
 {
     if !is_copied(graph, path) {
         return Ok(false);
@@ -62,6 +68,8 @@ pub(crate) fn is_left_over<W: World>(
 fn read_records<W: World>(alloc: Global, world: &mut W, view: &mut Option<View>) -> Result<(), Stop>
     ensures watches { Watches W.meaning world.old world.new }
     ensures step { WorldStep (W.meaning.counts world.old) (W.meaning.counts world.new) result }
+    ensures stops { IfErr result (StopsAt Step.Requests) }
+    ensures bytes { StepByBytes W.meaning world.old world.new result }
 {
     if view.is_some() {
         return Ok(());

@@ -1,9 +1,12 @@
 //! The reading of the scripts.
+ghost use Rattle.std.specs.Prelude.{IfErr};
 ghost use Rattle.scons_host.specs.Causes.{ReadingCauses};
+ghost use Rattle.scons_top.specs.Steps.{IsReadingStep, StopsAt};
 ghost use Rattle.scons_top.specs.Stops.{IsTopStop, OutSteps, WorldStep};
 ghost use Rattle.scons_top.specs.Watching.{Watches};
 
 use crate::printed::say;
+use crate::step::Step;
 use crate::stop::Stop;
 use rule_graph::{BuildFault, Graph};
 use scons_base::PathText;
@@ -20,11 +23,16 @@ pub(crate) fn read<W: World, O: Sink>(
     world: &mut W,
     out: &mut O,
     words: &Words,
+    at: &mut Step,
 ) -> Result<Graph, Stop>
+    ensures reading { IsReadingStep at.new }
+    ensures stops { IfErr result (StopsAt at.new) }
     ensures watches { Watches W.meaning world.old world.new }
     ensures steps { OutSteps W.meaning O.meaning world.old out.old world.new out.new result }
 {
+    *at = Step::Top;
     ask_for_top(alloc, world)?;
+    *at = Step::Reading;
     say(out, words, reading_text(alloc))?;
     let graph = graph_of(alloc, world, out, words)?;
     say(out, words, read_text(alloc))?;
@@ -48,6 +56,7 @@ fn graph_of<W: World, O: Sink>(
 /// Sees that the top directory can be named.
 #[tactic(auto, using(crate::proofs::Causing::causing))]
 fn ask_for_top<W: World>(alloc: Global, world: &mut W) -> Result<(), Stop>
+    ensures stops { IfErr result (StopsAt Step.Top) }
     ensures watches { Watches W.meaning world.old world.new }
     ensures step { WorldStep (W.meaning.counts world.old) (W.meaning.counts world.new) result }
 {
@@ -60,7 +69,8 @@ fn ask_for_top<W: World>(alloc: Global, world: &mut W) -> Result<(), Stop>
 
 /// The fault that the top directory can't be named.
 fn no_top(alloc: Global) -> Stop
-    ensures { IsTopStop result }
+    ensures stops { StopsAt Step.Top result }
+    ensures top { IsTopStop result }
 {
     match PathText::read(alloc, ".") {
         Ok(top) => Stop::Build(BuildFault::TreeFault(top)),

@@ -3,6 +3,7 @@ ghost use Rattle.std.specs.Prelude.{◌≡◌};
 ghost use Rattle.scons_top.specs.Faults.{IsLate};
 ghost use Rattle.scons_top.specs.Stops.{top_of};
 
+use crate::step::Step;
 use rule_graph::{BuildFault, What};
 use scons_base::{Listing, PathText, Paths, Text};
 use scons_host::ReadKind;
@@ -63,6 +64,8 @@ impl From<BuildFault> for Top {
 #[derive(Drop)]
 pub struct Report {
     pub status: u8,
+    /// The step at which the run ended.
+    pub step: Step,
     pub faults: Listing<Top>,
     /// Each rule that wasn't started because one that it needs is at fault: its first target, and that one's.
     pub skipped: Listing<(PathText, PathText)>,

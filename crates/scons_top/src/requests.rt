@@ -1,13 +1,17 @@
 //! What the words ask for.
-ghost use Rattle.std.specs.Prelude.{◌≡◌, IfOk};
+ghost use Rattle.std.specs.Prelude.{◌≡◌, IfErr, IfOk};
 ghost use Rattle.build_files.specs.Causes.{HasLookCause};
+ghost use Rattle.scons_top.specs.Foreign.{StepByBytes, StepOnNone, StopsByBytes};
 ghost use Rattle.scons_top.specs.Requested.{AsksForNodes, AskForNodes, HasMore, KnowsNodes};
+ghost use Rattle.scons_top.specs.Steps.{StopsAt};
 ghost use Rattle.scons_top.specs.Stops.{WorldStep, InnerStep, IsInside};
 ghost use Rattle.scons_top.specs.Watching.{Watches};
+ghost use Rattle.world_api.specs.Banks.{Banks};
 
 use crate::lookups::{Lookups, is_left_over};
 use crate::members::check_members;
 use crate::report::Top;
+use crate::step::Step;
 use crate::stop::Stop;
 use build_files::{ListEnd, has_copy_rule};
 use rule_graph::{Graph, Wish};
@@ -37,6 +41,8 @@ pub(crate) fn requests_of<W: World>(
 ) -> Result<Vec<Request>, Stop>
     ensures watches { Watches W.meaning world.old world.new }
     ensures step { WorldStep (W.meaning.counts world.old) (W.meaning.counts world.new) result }
+    ensures stops { IfErr result (StopsAt Step.Requests) }
+    ensures bytes { StepByBytes W.meaning world.old world.new result }
     ensures nodes { IfOk result (λ requests. AskForNodes graph.new requests.items) }
 {
     let asked = match words.requested.as_slice() {
@@ -56,6 +62,8 @@ fn requests_for<W: World>(
 ) -> Result<Vec<Request>, Stop>
     ensures watches { Watches W.meaning world.old world.new }
     ensures step { WorldStep (W.meaning.counts world.old) (W.meaning.counts world.new) result }
+    ensures stops { IfErr result (StopsAt Step.Requests) }
+    ensures bytes { StepByBytes W.meaning world.old world.new result }
     ensures nodes { IfOk result (λ requests. AskForNodes graph.new requests.items) }
 {
     let mut requests = Vec::new(alloc);
@@ -93,6 +101,8 @@ fn request_of<W: World>(
 ) -> Result<Request, Stop>
     ensures watches { Watches W.meaning world.old world.new }
     ensures step { WorldStep (W.meaning.counts world.old) (W.meaning.counts world.new) result }
+    ensures stops { IfErr result (StopsAt Step.Requests) }
+    ensures bytes { StepByBytes W.meaning world.old world.new result }
     ensures more { HasMore graph.old graph.new }
     ensures knows { KnowsNodes graph.old lookups.old.below → KnowsNodes graph.new lookups.new.below }
     ensures nodes { KnowsNodes graph.old lookups.old.below → IfOk result (AsksForNodes graph.new) }
@@ -123,6 +133,8 @@ fn file_request<W: World>(
 ) -> Result<Request, Stop>
     ensures watches { Watches W.meaning world.old world.new }
     ensures step { WorldStep (W.meaning.counts world.old) (W.meaning.counts world.new) result }
+    ensures stops { IfErr result (StopsAt Step.Requests) }
+    ensures bytes { StepByBytes W.meaning world.old world.new result }
     ensures more { HasMore graph.old graph.new }
     ensures knows { KnowsNodes graph.old lookups.old.below → KnowsNodes graph.new lookups.new.below }
     ensures nodes { KnowsNodes graph.old lookups.old.below → IfOk result (AsksForNodes graph.new) }
@@ -145,6 +157,8 @@ fn plain_request<W: World>(
 ) -> Result<Request, Stop>
     ensures watches { Watches W.meaning world.old world.new }
     ensures step { WorldStep (W.meaning.counts world.old) (W.meaning.counts world.new) result }
+    ensures stops { IfErr result (StopsAt Step.Requests) }
+    ensures bytes { StepByBytes W.meaning world.old world.new result }
     ensures more { HasMore graph.old graph.new }
     ensures knows { KnowsNodes graph.old lookups.old.below → KnowsNodes graph.new lookups.new.below }
     ensures nodes { KnowsNodes graph.old lookups.old.below → IfOk result (AsksForNodes graph.new) }
@@ -164,6 +178,8 @@ fn absent_request(
     path: &PathText,
 ) -> Result<Request, Stop>
     ensures step { InnerStep result }
+    ensures stops { IfErr result (StopsAt Step.Requests) }
+    ensures bytes { StepOnNone result }
     ensures knows { KnowsNodes graph.now lookups.old.below → KnowsNodes graph.now lookups.new.below }
     ensures nodes { KnowsNodes graph.now lookups.old.below → IfOk result (AsksForNodes graph.now) }
 {
@@ -183,6 +199,8 @@ fn node_request(
     is_plain: bool,
 ) -> Result<Request, Stop>
     ensures step { InnerStep result }
+    ensures stops { IfErr result (StopsAt Step.Requests) }
+    ensures bytes { StepOnNone result }
     ensures more { HasMore graph.old graph.new }
     ensures nodes { IfOk result (AsksForNodes graph.new) }
 {
@@ -198,6 +216,8 @@ fn node_request(
 /// The request of what lies behind a word that is no node's path.
 fn made(word: &Text, nodes: Vec<NodeId>) -> Result<Request, Stop>
     ensures step { InnerStep result }
+    ensures stops { IfErr result (StopsAt Step.Requests) }
+    ensures bytes { StepOnNone result }
     ensures nodes { IfOk result (λ request. request.nodes ≡ nodes) }
 {
     Ok(Request {
@@ -210,7 +230,9 @@ fn made(word: &Text, nodes: Vec<NodeId>) -> Result<Request, Stop>
 
 /// The fault that a word stands for nothing.
 pub(crate) fn unknown(word: &Text) -> Stop
-    ensures { IsInside result }
+    ensures stops { StopsAt Step.Requests result }
+    ensures bytes { (banks : Banks) → StopsByBytes banks result }
+    ensures inside { IsInside result }
 {
     match word.copy() {
         Ok(word) => Stop::Fault(Top::UnknownTarget(word)),

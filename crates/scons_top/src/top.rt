@@ -1,9 +1,12 @@
 //! The steps of a run.
-ghost use Rattle.std.specs.Prelude.{◌≡◌, [], Ok, IfOk, IfErr, Contains, IsTrue};
+ghost use Rattle.std.specs.Prelude.{◌≡◌, ◌≢◌, [], ℕ, Ok, Err, IfOk, IfErr, Contains, IsSome, IsTrue};
 ghost use Rattle.build_run.specs.Goings.{Passes};
 ghost use Rattle.scons_top.specs.Builds.{Builds, RunBuilds};
 ghost use Rattle.scons_top.specs.Causes.{RunCauses};
+ghost use Rattle.scons_top.specs.Cleaned.{Cleans, RunCleans};
+ghost use Rattle.scons_top.specs.Foreign.{RunByBytes, TellsBytes};
 ghost use Rattle.scons_top.specs.Requested.{AskForNodes};
+ghost use Rattle.scons_top.specs.Steps.{AllComeAt, ComesTo, IsRefused, LeavesAt, RefusesWords, RunEndsAt, RunsTo, ServesAt, TellsUsage};
 ghost use Rattle.scons_top.specs.Stopping.{RunsSafely};
 ghost use Rattle.scons_top.specs.Stops.{Reports, SinkReports};
 ghost use Rattle.scons_top.specs.Faults.{IsEarly, IsEarlyStop, EarlyOnlyIf};
@@ -12,6 +15,9 @@ ghost use Rattle.scons_top.specs.declared.report.Top.{Top};
 ghost use Rattle.world_api.specs.Looks.{Looks};
 ghost use Rattle.scons_words.specs.Readings.{read};
 ghost use Rattle.scons_words.specs.declared.words.Words.{Words};
+ghost use Rattle.scons_words.specs.declared.fault.UsageKind.{UsageKind};
+ghost use Rattle.scons_words.specs.declared.fault.WordsFault.{WordsFault};
+ghost use Rattle.scons_words.specs.declared.fault.WordsFault.TheVariants.{At};
 ghost use Rattle.world_api.specs.Causes.{Later};
 ghost use Rattle.world_api.specs.Meaning.{Told};
 
@@ -23,6 +29,7 @@ use crate::load_step::load;
 use crate::reading::read;
 use crate::report::Report;
 use crate::requests::{Request, requests_of};
+use crate::step::Step;
 use crate::stop::Stop;
 use rule_graph::Graph;
 use scons_base::Text;
@@ -32,7 +39,8 @@ use std::alloc::Global;
 use world_api::{Sink, World};
 
 /// The command: takes its words, reads the scripts, and cleans, lists or builds what is requested. A run whose words or
-/// scripts are at fault, or that is asked for what there isn't, leaves the world as it was; and so do `-n` and `-h`.
+/// scripts are at fault, or that is asked for what there isn't, leaves the world as it was; and so do `-n` and `-h`. The report says
+/// at which step the run ended.
 pub fn scons<W: World, O: Sink, E: Sink>(
     alloc: Global,
     words: &[Text],
@@ -44,6 +52,14 @@ pub fn scons<W: World, O: Sink, E: Sink>(
     requires idle { W.meaning.tells world.old → (W.meaning.around world.old).running ≡ [] }
     ensures told { Told W.meaning world.old world.new }
     ensures later { Later (W.meaning.counts world.old) (W.meaning.counts world.new) }
+    ensures comes { (said : Words) → read words.now ≡ Ok said → ComesTo said result.step }
+    ensures leaves { LeavesAt W.meaning result.step world.old world.new }
+    ensures faults { AllComeAt result.step result.faults }
+    ensures bytes { W.meaning.tells world.new → TellsBytes (W.meaning.seen world.old) result.step result.faults }
+    ensures refused { (why : WordsFault) → read words.now ≡ Err why → RefusesWords why world.old world.new out.old out.new result }
+    ensures usage { (place : ℕ) (kind : UsageKind) → Contains result.faults (Top.Usage place kind) → read words.now ≡ Err (At place kind) }
+    ensures load { (said : Words) → read words.now ≡ Ok said → IsSome said.load → world.new ≡ world.old }
+    ensures cleans { (said : Words) → read words.now ≡ Ok said → Cleans W.meaning said world.old world.new result }
     ensures idle { W.meaning.tells world.new → (W.meaning.around world.new).running ≡ [] }
     ensures dry { (said : Words) → read words.now ≡ Ok said → IsTrue said.dry → Looks W.meaning world.old world.new }
     ensures help { (said : Words) → read words.now ≡ Ok said → IsTrue said.help → Looks W.meaning world.old world.new }
@@ -53,9 +69,10 @@ pub fn scons<W: World, O: Sink, E: Sink>(
     ensures status { HasStatus result.status result.faults }
     ensures causes { RunCauses W.meaning O.meaning E.meaning world.old out.old err.old world.new out.new err.new result }
 {
-    match take_words(alloc, words, world, out, err) {
+    let mut at = Step::Words;
+    match take_words(alloc, words, world, out, err, &mut at) {
         Ok(report) => report,
-        Err(stop) => ended(alloc, stop, err),
+        Err(stop) => ended(alloc, stop, at, err),
     }
 }
 
@@ -66,9 +83,19 @@ fn take_words<W: World, O: Sink, E: Sink>(
     world: &mut W,
     out: &mut O,
     err: &mut E,
+    at: &mut Step,
 ) -> Result<Report, Stop>
     requires unclosed { W.meaning.closed world.old ≡ [] }
     requires idle { W.meaning.tells world.old → (W.meaning.around world.old).running ≡ [] }
+    ensures comes { (said : Words) → read words.now ≡ Ok said → ComesTo said at.new }
+    ensures leaves { LeavesAt W.meaning at.new world.old world.new }
+    ensures ends { RunEndsAt at.new result }
+    ensures bytes { RunByBytes W.meaning at.new world.old world.new result }
+    ensures refused { (why : WordsFault) → read words.now ≡ Err why → IsRefused why at.new world.old world.new out.old out.new result }
+    ensures usage { IfErr result (TellsUsage (read words.now)) }
+    ensures past { IfOk result (λ report. at.new ≢ Step.Words) }
+    ensures load { (said : Words) → read words.now ≡ Ok said → IsSome said.load → world.new ≡ world.old }
+    ensures cleans { (said : Words) → read words.now ≡ Ok said → RunCleans W.meaning said at.new world.old world.new result }
     ensures passes { Passes W.meaning world.old world.new }
     ensures reports { Reports W.meaning O.meaning E.meaning world.old out.old err.old world.new out.new err.new result }
     ensures idle { W.meaning.tells world.new → (W.meaning.around world.new).running ≡ [] }
@@ -80,11 +107,15 @@ fn take_words<W: World, O: Sink, E: Sink>(
     ensures late { IfOk result (λ report. EarlyOnlyIf ⊥ report.faults) }
     ensures status { IfOk result (λ report. HasStatus report.status report.faults) }
 {
+    *at = Step::Words;
     let words = read_words(alloc, words)?;
-    if let Some(rules) = words.load {
-        return load(alloc, &words, rules, out);
+    match words.load {
+        Some(rules) => {
+            *at = Step::Load;
+            load(alloc, &words, rules, out)
+        }
+        None => run(alloc, &words, world, out, err, at),
     }
-    run(alloc, &words, world, out, err)
 }
 
 /// What these words ask for.
@@ -94,9 +125,15 @@ pub(crate) fn run<W: World, O: Sink, E: Sink>(
     world: &mut W,
     out: &mut O,
     err: &mut E,
+    at: &mut Step,
 ) -> Result<Report, Stop>
     requires unclosed { W.meaning.closed world.old ≡ [] }
     requires idle { W.meaning.tells world.old → (W.meaning.around world.old).running ≡ [] }
+    ensures comes { RunsTo words.now at.new }
+    ensures leaves { LeavesAt W.meaning at.new world.old world.new }
+    ensures ends { RunEndsAt at.new result }
+    ensures bytes { RunByBytes W.meaning at.new world.old world.new result }
+    ensures cleans { RunCleans W.meaning words.now at.new world.old world.new result }
     ensures passes { Passes W.meaning world.old world.new }
     ensures reports { Reports W.meaning O.meaning E.meaning world.old out.old err.old world.new out.new err.new result }
     ensures idle { W.meaning.tells world.new → (W.meaning.around world.new).running ≡ [] }
@@ -108,10 +145,12 @@ pub(crate) fn run<W: World, O: Sink, E: Sink>(
     ensures late { IfOk result (λ report. EarlyOnlyIf ⊥ report.faults) }
     ensures status { IfOk result (λ report. HasStatus report.status report.faults) }
 {
-    let mut graph = read(alloc, world, out, words)?;
+    let mut graph = read(alloc, world, out, words, at)?;
     if words.help {
+        *at = Step::Help;
         return help(alloc, &graph, out);
     }
+    *at = Step::Requests;
     let requests = requests_of(alloc, world, &mut graph, words)?;
     serve(
         alloc,
@@ -121,16 +160,18 @@ pub(crate) fn run<W: World, O: Sink, E: Sink>(
         world,
         out,
         err,
+        at,
     )
 }
 
 /// Writes the help texts of the scripts.
 fn help<O: Sink>(alloc: Global, graph: &Graph, out: &mut O) -> Result<Report, Stop>
+    ensures ends { RunEndsAt Step.Help result }
     ensures reports { SinkReports O.meaning out.old out.new result }
     ensures faults { IfOk result (λ report. report.faults ≡ []) }
     ensures status { IfOk result (λ report. HasStatus report.status report.faults) }
 {
-    show(alloc, out, help_text(alloc, graph))
+    show(alloc, out, help_text(alloc, graph), Step::Help)
 }
 
 /// Cleans, lists or builds what is requested.
@@ -142,9 +183,15 @@ fn serve<W: World, O: Sink, E: Sink>(
     world: &mut W,
     out: &mut O,
     err: &mut E,
+    at: &mut Step,
 ) -> Result<Report, Stop>
     requires unclosed { W.meaning.closed world.old ≡ [] }
     requires idle { W.meaning.tells world.old → (W.meaning.around world.old).running ≡ [] }
+    ensures serves { ServesAt words.now at.new }
+    ensures leaves { LeavesAt W.meaning at.new world.old world.new }
+    ensures ends { RunEndsAt at.new result }
+    ensures bytes { RunByBytes W.meaning at.new world.old world.new result }
+    ensures cleans { AskForNodes graph.old requests.now → RunCleans W.meaning words.now at.new world.old world.new result }
     ensures passes { Passes W.meaning world.old world.new }
     ensures reports { Reports W.meaning O.meaning E.meaning world.old out.old err.old world.new out.new err.new result }
     ensures idle { W.meaning.tells world.new → (W.meaning.around world.new).running ≡ [] }
@@ -156,10 +203,11 @@ fn serve<W: World, O: Sink, E: Sink>(
     ensures status { IfOk result (λ report. HasStatus report.status report.faults) }
 {
     if words.clean {
+        *at = Step::Cleaning;
         return clean_requests(alloc, graph, words, requests, world, out);
     }
     if words.dry {
-        return list_requests(alloc, graph, words, requests, world, out, err);
+        return list_requests(alloc, graph, words, requests, world, out, err, at);
     }
-    build_requests(alloc, graph, words, requests, world, out, err)
+    build_requests(alloc, graph, words, requests, world, out, err, at)
 }

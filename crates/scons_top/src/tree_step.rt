@@ -2,6 +2,7 @@
 ghost use Rattle.std.specs.Prelude.{IfErr, IfOk};
 ghost use Rattle.scons_top.specs.Causes.{RunCauses};
 ghost use Rattle.scons_top.specs.Faults.{IsLateStop, EarlyOnlyIf};
+ghost use Rattle.scons_top.specs.Steps.{ReportsAt, RunEndsAt};
 ghost use Rattle.scons_top.specs.Stops.{Reports};
 ghost use Rattle.scons_top.specs.Trees.{AreTreesCaused};
 ghost use Rattle.scons_top.specs.Watching.{Watches};
@@ -12,6 +13,7 @@ use crate::ending::{ended, good, tell_requests};
 use crate::printed::say;
 use crate::report::Report;
 use crate::requests::Request;
+use crate::step::Step;
 use crate::stop::Stop;
 use rule_graph::{BuildFault, Graph};
 use scons_base::RuleId;
@@ -35,6 +37,7 @@ pub(crate) fn tell_trees<W: World, O: Sink, E: Sink>(
 ) -> Report
     ensures watches { Watches W.meaning world.old world.new }
     ensures causes { RunCauses W.meaning O.meaning E.meaning world.old out.old err.old world.new out.new err.new result }
+    ensures ends { ReportsAt Step.Building result }
     ensures faults { EarlyOnlyIf ⊥ result.faults }
     ensures status { HasStatus result.status result.faults }
 {
@@ -42,7 +45,7 @@ pub(crate) fn tell_trees<W: World, O: Sink, E: Sink>(
         alloc, graph, declared, words, requests, started, world, out, err,
     ) {
         Ok(report) => report,
-        Err(stop) => ended(alloc, stop, err),
+        Err(stop) => ended(alloc, stop, Step::Building, err),
     }
 }
 
@@ -61,6 +64,7 @@ fn show_trees<W: World, O: Sink, E: Sink>(
 ) -> Result<Report, Stop>
     ensures watches { Watches W.meaning world.old world.new }
     ensures reports { Reports W.meaning O.meaning E.meaning world.old out.old err.old world.new out.new err.new result }
+    ensures ends { RunEndsAt Step.Building result }
     ensures late { IfErr result IsLateStop }
     ensures faults { IfOk result (λ report. EarlyOnlyIf ⊥ report.faults) }
     ensures status { IfOk result (λ report. HasStatus report.status report.faults) }
@@ -69,11 +73,11 @@ fn show_trees<W: World, O: Sink, E: Sink>(
     match print_trees(alloc, graph, declared, requests, world, out) {
         Ok(()) => {
             say(out, words, done_text(alloc))?;
-            Ok(good(alloc))
+            Ok(good(alloc, Step::Building))
         }
         Err(TreeEnd::Fault(fault)) => match fault {
             BuildFault::OutFault => Err(Stop::Build(BuildFault::OutFault)),
-            _ => end_with(alloc, words, fault, out, err),
+            _ => end_with(alloc, words, fault, out, err, Step::Building),
         },
         Err(TreeEnd::Memory) => Err(Stop::Memory),
     }

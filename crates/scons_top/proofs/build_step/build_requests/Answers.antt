@@ -1,5 +1,9 @@
+use Rattle.std.specs.Prelude.{Ok}
+use Rattle.scons_top.proofs.Opening.{stops_unopened, building_ends}
+use Rattle.scons_top.specs.declared.step.Step.TheVariants as step
+use Rattle.scons_top.proofs.Stepping.{ends_memory, ends_exit, reports_at, sink_at, building_at}
 use Rattle.scons_top.proofs.Stopping.{runs_by, runs_looked, runs_on, steps_begun, steps_here}
-use Rattle.std.proofs.Common.{◌∙◌, inl, refl, subst, sym}
+use Rattle.std.proofs.Common.{◌∙◌, inl, refl, subst, sym, inr}
 use Rattle.scons_top.proofs.Causing.{same_world, same_out, exit_report, report_memory, world_stop, sink_stop, stop_back, caused_back, build_found}
 use Rattle.world_api.proofs.Looking.{looks_same}
 use Rattle.sign_store.specs.Stores.{map_of}
@@ -53,7 +57,7 @@ pub returns-clause-builds : goal.returns-clause-builds
 returns-clause-builds g c = λ asks ask tells sure.
     let graph = c.args.graph.now in
     let requested = c.as_slice.result.now in
-    let nodes = subst (AreNodes graph) (sym c.as_slice.ensures.value) (c.in_ok-nodes.ensures graph asks) in
+    let nodes = subst (AreNodes graph) (sym c.as_slice.ensures.value) (c.in_ok-nodes.ensures.nodes graph asks) in
     let store = c.in_ok-store in
     let end = c.build-end in
     let told = end.ensures.told.told tells in
@@ -79,7 +83,7 @@ returns-clause-safe g c = λ asks.
     let m = g.W.Disk.meaning in
     let graph = c.args.graph.now in
     let requested = c.as_slice.result.now in
-    let nodes = subst (AreNodes graph) (sym c.as_slice.ensures.value) (c.in_ok-nodes.ensures graph asks) in
+    let nodes = subst (AreNodes graph) (sym c.as_slice.ensures.value) (c.in_ok-nodes.ensures.nodes graph asks) in
     let old = c.args.world.now in
     let begun = c.begin_store in
     let end = c.build-end in
@@ -114,7 +118,7 @@ returns-then-has_trees-clause-builds g c = λ asks ask tells sure.
     let old = c.args.world.now in
     let graph = c.args.graph.now in
     let requested = c.as_slice.result.now in
-    let nodes = subst (AreNodes graph) (sym c.as_slice.ensures.value) (c.in_ok-nodes.ensures graph asks) in
+    let nodes = subst (AreNodes graph) (sym c.as_slice.ensures.value) (c.in_ok-nodes.ensures.nodes graph asks) in
     let store = c.in_ok-store in
     let end = c.build-end in
     let watches = c.tell_trees.ensures.watches in
@@ -133,7 +137,7 @@ returns-then-has_trees-clause-safe g c = λ asks.
     let m = g.W.Disk.meaning in
     let graph = c.args.graph.now in
     let requested = c.as_slice.result.now in
-    let nodes = subst (AreNodes graph) (sym c.as_slice.ensures.value) (c.in_ok-nodes.ensures graph asks) in
+    let nodes = subst (AreNodes graph) (sym c.as_slice.ensures.value) (c.in_ok-nodes.ensures.nodes graph asks) in
     let old = c.args.world.now in
     let begun = c.begin_store in
     let end = c.build-end in
@@ -142,3 +146,41 @@ returns-then-has_trees-clause-safe g c = λ asks.
     (steps_begun m g.met.W.Disk.reads_as old begun.new.world begun.ensures.goes.passes.told begun.ensures.begins)
     (λ s law truth. end.ensures.safe s law truth (are_below_all graph requested nodes)))
     c.tell_trees.ensures.watches.looks
+
+pub returns-in_err-nodes-clause-ends : goal.returns-in_err-nodes-clause-ends
+returns-in_err-nodes-clause-ends g c = ends_memory step.Store c.from_residual.result c.from_residual.ensures.1
+
+pub returns-in_err-store-clause-ends : goal.returns-in_err-store-clause-ends
+returns-in_err-store-clause-ends g c = let r = c.from_residual-in_err-store in ends_exit step.Store r.result _ r.ensures.1 c.in_err-store.ensures.stops
+
+pub returns-in_err-say-clause-ends : goal.returns-in_err-say-clause-ends
+returns-in_err-say-clause-ends g c = let r = c.from_residual-in_err-say in ends_exit step.Building r.result _ r.ensures.1 (sink_at step.Building _ _ _ c.in_err-say.ensures.step)
+
+pub returns-then-has_trees-clause-ends : goal.returns-then-has_trees-clause-ends
+returns-then-has_trees-clause-ends g c = c.tell_trees.ensures.ends
+
+pub returns-clause-ends : goal.returns-clause-ends
+returns-clause-ends g c = reports_at step.Building c.closed.result c.closed.ensures.at (c.closed.ensures.ends (building_at _))
+
+pub returns-in_err-nodes-clause-leaves : goal.returns-in_err-nodes-clause-leaves
+returns-in_err-nodes-clause-leaves g c = inl (looks_same g.W.Disk.meaning c.args.world.now)
+
+pub returns-in_err-store-clause-leaves : goal.returns-in_err-store-clause-leaves
+returns-in_err-store-clause-leaves g c =
+    let m = g.W.Disk.meaning in
+    inr (record { looked = c.args.world.now; looks = looks_same m c.args.world.now; begins = c.begin_store.ensures.begins })
+
+pub returns-in_err-nodes-clause-bytes : goal.returns-in_err-nodes-clause-bytes
+returns-in_err-nodes-clause-bytes g c = λ t. stops_unopened _ step.Store c.from_residual.result _ c.from_residual.ensures.1 (λ o. o) tt
+
+pub returns-in_err-store-clause-bytes : goal.returns-in_err-store-clause-bytes
+returns-in_err-store-clause-bytes g c = λ t. let r = c.from_residual-in_err-store in stops_unopened _ step.Store r.result _ r.ensures.1 (λ o. o) (c.in_err-store.ensures.bytes t)
+
+pub returns-in_err-say-clause-bytes : goal.returns-in_err-say-clause-bytes
+returns-in_err-say-clause-bytes g c = λ t. building_ends _ c.from_residual-in_err-say.result (c.in_ok-store.ensures.readable t) (returns-in_err-say-clause-ends g c)
+
+pub returns-then-has_trees-clause-bytes : goal.returns-then-has_trees-clause-bytes
+returns-then-has_trees-clause-bytes g c = λ t. building_ends _ (Ok c.tell_trees.result) (c.in_ok-store.ensures.readable (c.build-end.ensures.told.told (c.tell_trees.ensures.watches.looks.told.told t))) c.tell_trees.ensures.ends
+
+pub returns-clause-bytes : goal.returns-clause-bytes
+returns-clause-bytes g c = λ t. building_ends _ (Ok c.closed.result) (c.in_ok-store.ensures.readable (c.build-end.ensures.told.told t)) (returns-clause-ends g c)

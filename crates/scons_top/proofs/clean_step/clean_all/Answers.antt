@@ -1,5 +1,9 @@
+use Rattle.scons_top.specs.declared.step.Step.TheVariants as step
+use Rattle.scons_top.proofs.Stepping.{stops_memory, stops_exit}
+use Rattle.scons_top.proofs.Clearing.{cleared_same, none_gone, target_cleared, target_gone, targets_gone}
+use Rattle.std.proofs.lemmas.List.{take_all}
 use Rattle.scons_top.proofs.Stopping.{steps_here, steps_on}
-use Rattle.std.proofs.Common.{◌∙◌, refl}
+use Rattle.std.proofs.Common.{arith, ◌≡◌, ◌∙◌, refl, take}
 use Rattle.build_run.proofs.Goings.{stays_here, stays_on}
 use Rattle.scons_top.proofs.Watching.{idle_on, watches_on, watches_same}
 use Rattle.scons_top.proofs.Causing.{exit_memory, exit_step, stop_back}
@@ -20,6 +24,10 @@ loop-target-preserved g c = record {
   same = λ err. c.in_ok-clean.ensures.steps err ∙ c.loop-target.invariant.same err;
   safe = steps_on _ _ _ _ c.clean.ensures.stays.goes.passes.told c.loop-target.invariant.safe c.clean.ensures.safe;
   dry = λ is. watches_on _ _ _ _ (c.loop-target.invariant.dry is) (c.clean.ensures.dry is);
+  cleared = target_cleared g.W.Disk.meaning c.args.graph.now c.args.targets.now c.loop-target.target-index _ _ c.args.world.now c.loop-target.world c.clean.new.world
+      c.loop-target-test.true c.in_ok-path_of.ensures.at c.clean.ensures.stays.goes.passes.told.told c.loop-target.invariant.cleared c.clean.ensures.cleared;
+  gone = target_gone g.W.Disk.meaning c.args.words.now c.args.graph.now c.args.targets.now c.loop-target.target-index _ _ c.loop-target.world c.clean.new.world
+      c.loop-target-test.true c.in_ok-path_of.ensures.at c.clean.ensures.stays.goes.passes.told.told c.clean.ensures.cleared c.in_ok-clean.ensures.gone c.loop-target.invariant.gone;
 }
 
 pub returns-in_err-clean-clause-steps : goal.returns-in_err-clean-clause-steps
@@ -43,4 +51,24 @@ loop-target-init g c = record {
   same = λ err. refl;
   safe = steps_here g.W.Disk.meaning g.met.W.Disk.only_now c.args.world.now;
   dry = λ is. watches_same g.W.Disk.meaning c.args.world.now;
+  cleared = λ t. cleared_same _ _;
+  gone = none_gone g.W.Disk.meaning c.args.words.now c.args.graph.now c.args.targets.now c.args.world.now;
 }
+
+pub returns-in_err-path_of-clause-stops : goal.returns-in_err-path_of-clause-stops
+returns-in_err-path_of-clause-stops g c = stops_memory step.Cleaning c.from_residual.result c.from_residual.ensures.1
+
+pub returns-in_err-clean-clause-stops : goal.returns-in_err-clean-clause-stops
+returns-in_err-clean-clause-stops g c =
+    let r = c.from_residual-in_err-clean in
+    stops_exit step.Cleaning r.result _ r.ensures.1 c.in_err-clean.ensures.stops
+
+pub returns-in_err-clean-clause-cleared : goal.returns-in_err-clean-clause-cleared
+returns-in_err-clean-clause-cleared g c =
+    target_cleared g.W.Disk.meaning c.args.graph.now c.args.targets.now c.loop-target.target-index _ _ c.args.world.now c.loop-target.world c.clean.new.world
+    c.loop-target-test.true c.in_ok-path_of.ensures.at c.clean.ensures.stays.goes.passes.told.told c.loop-target.invariant.cleared c.clean.ensures.cleared
+
+pub returns-clause-gone : goal.returns-clause-gone
+returns-clause-gone g c =
+    let whole : take c.loop-target.target-index c.args.targets.now ≡ c.args.targets.now = take_all c.loop-target.target-index c.args.targets.now (omega arith) in
+    targets_gone g.W.Disk.meaning c.args.words.now c.args.graph.now c.args.targets.now c.loop-target.target-index c.loop-target.world whole c.loop-target.invariant.gone

@@ -1,5 +1,11 @@
+use Rattle.scons_top.specs.declared.step.Step.TheVariants as step
+use Rattle.scons_top.specs.Requested.{AreNodes, nodes_asked}
+use Rattle.scons_top.proofs.Clearing.{asked_exit, cleans_ill, cleans_well, requested_list}
+use Rattle.scons_top.proofs.Requesting.{are_below_all}
+use Rattle.scons_top.proofs.Stepping.{ends_exit, ends_memory, sink_at}
+use Rattle.world_api.proofs.Looking.{looks_same}
 use Rattle.scons_top.proofs.Stopping.{steps_here}
-use Rattle.std.proofs.Common.{◌∙◌, refl}
+use Rattle.std.proofs.Common.{◌∙◌, inl, inr, refl, subst, sym}
 use Rattle.scons_top.proofs.Causing.{same_out, exit_report, report_memory, sink_stop, stop_back, good_step}
 use Rattle.scons_top.proofs.clean_step.clean_requests.Goals as goal
 
@@ -40,3 +46,69 @@ returns-in_err-say-clause-safe g c = steps_here g.W.Disk.meaning g.met.W.Disk.on
 
 pub returns-in_err-rules-clause-safe : goal.returns-in_err-rules-clause-safe
 returns-in_err-rules-clause-safe g c = steps_here g.W.Disk.meaning g.met.W.Disk.only_now c.args.world.now
+
+pub returns-in_err-nodes-clause-ends : goal.returns-in_err-nodes-clause-ends
+returns-in_err-nodes-clause-ends g c = ends_memory step.Cleaning c.from_residual.result c.from_residual.ensures.1
+
+pub returns-in_err-say-clause-ends : goal.returns-in_err-say-clause-ends
+returns-in_err-say-clause-ends g c = let r = c.from_residual-in_err-say in ends_exit step.Cleaning r.result _ r.ensures.1 (sink_at step.Cleaning _ _ _ c.in_err-say.ensures.step)
+
+pub returns-in_err-rules-clause-ends : goal.returns-in_err-rules-clause-ends
+returns-in_err-rules-clause-ends g c = let r = c.from_residual-in_err-rules in ends_memory step.Cleaning r.result r.ensures.1
+
+pub returns-in_err-clean_rules-clause-ends : goal.returns-in_err-clean_rules-clause-ends
+returns-in_err-clean_rules-clause-ends g c = let r = c.from_residual-in_err-clean_rules in ends_exit step.Cleaning r.result _ r.ensures.1 c.in_err-clean_rules.ensures.stops
+
+pub returns-in_err-say-2-clause-ends : goal.returns-in_err-say-2-clause-ends
+returns-in_err-say-2-clause-ends g c = let r = c.from_residual-in_err-say-2 in ends_exit step.Cleaning r.result _ r.ensures.1 (sink_at step.Cleaning _ _ _ c.in_err-say-2.ensures.step)
+
+pub returns-clause-ends : goal.returns-clause-ends
+returns-clause-ends g c = c.good.ensures.ends
+
+pub returns-in_err-nodes-clause-cleans : goal.returns-in_err-nodes-clause-cleans
+returns-in_err-nodes-clause-cleans g c = λ asks.
+    let m = g.W.Disk.meaning in
+    asked_exit m _ _ _ c.args.world.now c.args.world.now c.from_residual.result _ c.from_residual.ensures.1 (inr (looks_same m c.args.world.now))
+
+pub returns-in_err-say-clause-cleans : goal.returns-in_err-say-clause-cleans
+returns-in_err-say-clause-cleans g c = λ asks.
+    let m = g.W.Disk.meaning in
+    let r = c.from_residual-in_err-say in
+    asked_exit m _ _ _ c.args.world.now c.args.world.now r.result _ r.ensures.1 (inr (looks_same m c.args.world.now))
+
+pub returns-in_err-rules-clause-cleans : goal.returns-in_err-rules-clause-cleans
+returns-in_err-rules-clause-cleans g c = λ asks.
+    let m = g.W.Disk.meaning in
+    let r = c.from_residual-in_err-rules in
+    asked_exit m _ _ _ c.args.world.now c.args.world.now r.result _ r.ensures.1 (inr (looks_same m c.args.world.now))
+
+pub returns-in_err-clean_rules-clause-cleans : goal.returns-in_err-clean_rules-clause-cleans
+returns-in_err-clean_rules-clause-cleans g c = λ asks.
+    let m = g.W.Disk.meaning in
+    let graph = c.args.graph.now in
+    let r = c.from_residual-in_err-clean_rules in
+    let below = are_below_all graph c.as_slice.result.now (subst (AreNodes graph) (sym c.as_slice.ensures.value) (c.in_ok-nodes.ensures.nodes graph asks)) in
+    let list = requested_list graph c.as_slice.result.now (nodes_asked c.args.requests.now) c.as_slice-2.result.now _ (c.as_slice.ensures.value ∙ c.in_ok-nodes.ensures.are) c.as_slice-2.ensures below
+    c.in_ok-rules.ensures in
+    asked_exit m _ graph (nodes_asked c.args.requests.now) c.args.world.now c.clean_rules.new.world r.result _ r.ensures.1
+    (inl (cleans_ill m c.args.words.now graph _ _ c.args.world.now c.clean_rules.new.world list c.clean_rules.ensures.cleared))
+
+pub returns-in_err-say-2-clause-cleans : goal.returns-in_err-say-2-clause-cleans
+returns-in_err-say-2-clause-cleans g c = λ asks.
+    let m = g.W.Disk.meaning in
+    let graph = c.args.graph.now in
+    let r = c.from_residual-in_err-say-2 in
+    let below = are_below_all graph c.as_slice.result.now (subst (AreNodes graph) (sym c.as_slice.ensures.value) (c.in_ok-nodes.ensures.nodes graph asks)) in
+    let list = requested_list graph c.as_slice.result.now (nodes_asked c.args.requests.now) c.as_slice-2.result.now _ (c.as_slice.ensures.value ∙ c.in_ok-nodes.ensures.are) c.as_slice-2.ensures below
+    c.in_ok-rules.ensures in
+    asked_exit m _ graph (nodes_asked c.args.requests.now) c.args.world.now c.clean_rules.new.world r.result _ r.ensures.1
+    (inl (cleans_ill m c.args.words.now graph _ _ c.args.world.now c.clean_rules.new.world list c.clean_rules.ensures.cleared))
+
+pub returns-clause-cleans : goal.returns-clause-cleans
+returns-clause-cleans g c = λ asks.
+    let m = g.W.Disk.meaning in
+    let graph = c.args.graph.now in
+    let below = are_below_all graph c.as_slice.result.now (subst (AreNodes graph) (sym c.as_slice.ensures.value) (c.in_ok-nodes.ensures.nodes graph asks)) in
+    let list = requested_list graph c.as_slice.result.now (nodes_asked c.args.requests.now) c.as_slice-2.result.now _ (c.as_slice.ensures.value ∙ c.in_ok-nodes.ensures.are) c.as_slice-2.ensures below
+    c.in_ok-rules.ensures in
+    cleans_well m c.args.words.now graph (nodes_asked c.args.requests.now) _ c.args.world.now c.clean_rules.new.world _ list c.clean_rules.ensures.cleared c.in_ok-clean_rules.ensures.gone

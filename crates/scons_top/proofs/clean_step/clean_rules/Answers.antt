@@ -1,5 +1,9 @@
+use Rattle.scons_top.specs.declared.step.Step.TheVariants as step
+use Rattle.scons_top.proofs.Stepping.{stops_memory, stops_exit}
+use Rattle.scons_top.proofs.Clearing.{as_cleared, as_removed, cleared_same, no_rule_gone, rule_cleared, rule_gone, rules_gone}
+use Rattle.std.proofs.lemmas.List.{take_all}
 use Rattle.scons_top.proofs.Stopping.{steps_here, steps_on}
-use Rattle.std.proofs.Common.{◌∙◌, refl}
+use Rattle.std.proofs.Common.{arith, ◌≡◌, ◌∙◌, refl, take}
 use Rattle.build_run.proofs.Goings.{stays_here, stays_on}
 use Rattle.scons_top.proofs.Watching.{idle_on, watches_on, watches_same}
 use Rattle.scons_top.proofs.Causing.{exit_memory, exit_step, stop_back}
@@ -20,6 +24,13 @@ loop-rule-preserved g c = record {
   same = λ err. c.in_ok-clean_all.ensures.steps err ∙ c.loop-rule.invariant.same err;
   safe = steps_on _ _ _ _ c.clean_all.ensures.stays.goes.passes.told c.loop-rule.invariant.safe c.clean_all.ensures.safe;
   dry = λ is. watches_on _ _ _ _ (c.loop-rule.invariant.dry is) (c.clean_all.ensures.dry is);
+  cleared = rule_cleared g.W.Disk.meaning c.args.graph.now c.args.rules.now c.loop-rule.rule-index _ _ c.args.world.now c.loop-rule.world c.clean_all.new.world
+      c.loop-rule-test.true c.in_ok-rule_at.ensures.at c.clean_all.ensures.stays.goes.passes.told.told c.loop-rule.invariant.cleared
+      (as_cleared g.W.Disk.meaning c.args.graph.now _ _ c.loop-rule.world c.clean_all.new.world c.as_slice-targets.ensures c.clean_all.ensures.cleared);
+  gone = rule_gone g.W.Disk.meaning c.args.words.now c.args.graph.now c.args.rules.now c.loop-rule.rule-index _ _ c.loop-rule.world c.clean_all.new.world
+      c.loop-rule-test.true c.in_ok-rule_at.ensures.at c.clean_all.ensures.stays.goes.passes.told.told
+      (as_cleared g.W.Disk.meaning c.args.graph.now _ _ c.loop-rule.world c.clean_all.new.world c.as_slice-targets.ensures c.clean_all.ensures.cleared)
+      (as_removed g.W.Disk.meaning c.args.words.now c.args.graph.now _ _ c.clean_all.new.world c.as_slice-targets.ensures c.in_ok-clean_all.ensures.gone) c.loop-rule.invariant.gone;
 }
 
 pub returns-in_err-clean_all-clause-steps : goal.returns-in_err-clean_all-clause-steps
@@ -43,4 +54,25 @@ loop-rule-init g c = record {
   same = λ err. refl;
   safe = steps_here g.W.Disk.meaning g.met.W.Disk.only_now c.args.world.now;
   dry = λ is. watches_same g.W.Disk.meaning c.args.world.now;
+  cleared = λ t. cleared_same _ _;
+  gone = no_rule_gone g.W.Disk.meaning c.args.words.now c.args.graph.now c.args.rules.now c.args.world.now;
 }
+
+pub returns-in_err-rule_at-clause-stops : goal.returns-in_err-rule_at-clause-stops
+returns-in_err-rule_at-clause-stops g c = stops_memory step.Cleaning c.from_residual.result c.from_residual.ensures.1
+
+pub returns-in_err-clean_all-clause-stops : goal.returns-in_err-clean_all-clause-stops
+returns-in_err-clean_all-clause-stops g c =
+    let r = c.from_residual-in_err-clean_all in
+    stops_exit step.Cleaning r.result _ r.ensures.1 c.in_err-clean_all.ensures.stops
+
+pub returns-in_err-clean_all-clause-cleared : goal.returns-in_err-clean_all-clause-cleared
+returns-in_err-clean_all-clause-cleared g c =
+    rule_cleared g.W.Disk.meaning c.args.graph.now c.args.rules.now c.loop-rule.rule-index _ _ c.args.world.now c.loop-rule.world c.clean_all.new.world
+    c.loop-rule-test.true c.in_ok-rule_at.ensures.at c.clean_all.ensures.stays.goes.passes.told.told c.loop-rule.invariant.cleared
+    (as_cleared g.W.Disk.meaning c.args.graph.now _ _ c.loop-rule.world c.clean_all.new.world c.as_slice-targets.ensures c.clean_all.ensures.cleared)
+
+pub returns-clause-gone : goal.returns-clause-gone
+returns-clause-gone g c =
+    let whole : take c.loop-rule.rule-index c.args.rules.now ≡ c.args.rules.now = take_all c.loop-rule.rule-index c.args.rules.now (omega arith) in
+    rules_gone g.W.Disk.meaning c.args.words.now c.args.graph.now c.args.rules.now c.loop-rule.rule-index c.loop-rule.world whole c.loop-rule.invariant.gone

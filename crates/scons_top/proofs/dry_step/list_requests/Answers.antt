@@ -1,3 +1,6 @@
+use Rattle.scons_top.proofs.Opening.{stops_unopened, store_unopened, listing_ends}
+use Rattle.scons_top.specs.declared.step.Step.TheVariants as step
+use Rattle.scons_top.proofs.Stepping.{ends_memory, ends_store, ends_exit, store_at, sink_at, listing_at}
 use Rattle.std.proofs.Common.{◌∙◌, refl}
 use Rattle.build_run.specs.Causes.{outside}
 use Rattle.scons_top.specs.declared.stop.Stop.TheVariants as stop
@@ -50,3 +53,36 @@ pub returns-clause-reports : goal.returns-clause-reports
 returns-clause-reports g c =
     let same = same_out _ _ _ _ c.in_ok-say.ensures.step ∙ same_world _ _ _ _ (store_well _ _ _ c.view_of.result _ c.in_ok-view.was c.view_of.ensures.cause) in
     report_back _ _ _ c.end_with.result same (c.end_with.ensures.reports _ _ (list_faulty _ _ _ _ _ c.in-Err-Fault.field-0-is refl c.in-Err-Fault.ensures.cause))
+
+pub returns-in_err-nodes-clause-ends : goal.returns-in_err-nodes-clause-ends
+returns-in_err-nodes-clause-ends g c = ends_memory step.Store c.from_residual.result c.from_residual.ensures.1
+
+pub returns-in_err-view-clause-ends : goal.returns-in_err-view-clause-ends
+returns-in_err-view-clause-ends g c = let r = c.from_residual-in_err-view in ends_store step.Store r.result _ r.ensures.1 (store_at _)
+
+pub returns-in_err-say-clause-ends : goal.returns-in_err-say-clause-ends
+returns-in_err-say-clause-ends g c = let r = c.from_residual-in_err-say in ends_exit step.Listing r.result _ r.ensures.1 (sink_at step.Listing _ _ _ c.in_err-say.ensures.step)
+
+pub returns-in-Ok-clause-ends : goal.returns-in-Ok-clause-ends
+returns-in-Ok-clause-ends g c = c.tell_rules.ensures.ends
+
+pub returns-clause-ends : goal.returns-clause-ends
+returns-clause-ends g c = c.end_with.ensures.ends (listing_at _ _ _ _ c.in-Err-Fault.field-0-is c.in-Err-Fault.ensures.cause)
+
+pub returns-in_err-nodes-clause-bytes : goal.returns-in_err-nodes-clause-bytes
+returns-in_err-nodes-clause-bytes g c = λ t. stops_unopened _ step.Store c.from_residual.result _ c.from_residual.ensures.1 (λ o. o) tt
+
+pub returns-in_err-view-clause-bytes : goal.returns-in_err-view-clause-bytes
+returns-in_err-view-clause-bytes g c = λ t. let r = c.from_residual-in_err-view in store_unopened _ r.result _ r.ensures.1 (c.in_err-view.ensures.refused t)
+
+pub returns-in_err-say-clause-bytes : goal.returns-in_err-say-clause-bytes
+returns-in_err-say-clause-bytes g c = λ t. listing_ends _ c.from_residual-in_err-say.result (c.in_ok-view.ensures.readable t) (returns-in_err-say-clause-ends g c)
+
+pub returns-in-Ok-clause-bytes : goal.returns-in-Ok-clause-bytes
+returns-in-Ok-clause-bytes g c = λ t. listing_ends _ c.tell_rules.result (c.in_ok-view.ensures.readable (c.list_of.ensures.watches.looks.told.told t)) c.tell_rules.ensures.ends
+
+pub returns-in-Err-Memory-clause-bytes : goal.returns-in-Err-Memory-clause-bytes
+returns-in-Err-Memory-clause-bytes g c = λ t. record { stops = tt; readable = λ o. c.in_ok-view.ensures.readable (c.list_of.ensures.watches.looks.told.told t) }
+
+pub returns-clause-bytes : goal.returns-clause-bytes
+returns-clause-bytes g c = λ t. listing_ends _ c.end_with.result (c.in_ok-view.ensures.readable (c.list_of.ensures.watches.looks.told.told t)) (returns-clause-ends g c)

@@ -1,4 +1,6 @@
-use Rattle.std.proofs.Common.{◌∙◌, sym, subst}
+use Rattle.std.proofs.lemmas.Bool.{false≢true}
+use Rattle.scons_top.proofs.Stepping.{stop_or_fault, told_fault, stop_or_build, told_build, stop_or_none}
+use Rattle.std.proofs.Common.{◌∙◌, sym, subst, refl}
 use Rattle.scons_top.specs.Endings.{ErrEnds}
 use Rattle.scons_top.specs.Stops.{top_of}
 use Rattle.scons_top.specs.declared.stop.Stop.{Stop}
@@ -18,3 +20,21 @@ returns-in-Memory-clause-causes g c =
     let m = g.E.Sink.meaning in
     let err = c.args.err.now in
     subst (λ (s : Stop). ErrEnds m s err err c.report.result) (sym c.in-Memory.is) (ends_wanting m err c.report.result (c.report.ensures.faults ∙ c.empty.ensures) c.report.ensures.memory)
+
+pub returns-in-Fault-clause-alone : goal.returns-in-Fault-clause-alone
+returns-in-Fault-clause-alone g c = stop_or_fault _ _ _ _ c.in-Fault.is refl c.kept.ensures.alone
+
+pub returns-in-Fault-clause-told : goal.returns-in-Fault-clause-told
+returns-in-Fault-clause-told g c = λ ne. told_fault _ _ _ c.in-Fault.is (c.kept.ensures.told ne)
+
+pub returns-in-Build-clause-alone : goal.returns-in-Build-clause-alone
+returns-in-Build-clause-alone g c = stop_or_build _ c.in-Build.fault c.from.result _ c.in-Build.is c.from.ensures.1 c.kept-in-Build.ensures.alone
+
+pub returns-in-Build-clause-told : goal.returns-in-Build-clause-told
+returns-in-Build-clause-told g c = λ ne. told_build _ c.in-Build.fault c.from.result _ c.in-Build.is c.from.ensures.1 (c.kept-in-Build.ensures.told ne)
+
+pub returns-in-Memory-clause-alone : goal.returns-in-Memory-clause-alone
+returns-in-Memory-clause-alone g c = stop_or_none _ _ (c.report.ensures.faults ∙ c.empty.ensures)
+
+pub returns-in-Memory-clause-told : goal.returns-in-Memory-clause-told
+returns-in-Memory-clause-told g c = λ ne. absurd (false≢true (sym (c.report.ensures.memory ne)))

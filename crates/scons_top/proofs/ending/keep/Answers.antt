@@ -1,4 +1,5 @@
-use Rattle.std.proofs.Common.{◌∙◌, ◌++◌, ◌∷◌, [], ap, List}
+use Rattle.scons_top.proofs.Stepping.{or_same, or_more, has_pushed, has_before}
+use Rattle.std.proofs.Common.{◌∙◌, ◌++◌, ◌∷◌, [], ap, List, inl, inr, refl}
 use Rattle.scons_top.specs.Faults.{IsEarly}
 use Rattle.scons_top.specs.declared.report.Top.{Top}
 use Rattle.scons_top.specs.declared.report.Top.TheVariants as top
@@ -27,3 +28,25 @@ returns-clause-early g c = λ each.
 pub returns-clause-finds : goal.returns-clause-finds
 returns-clause-finds g c =
     finds_refused g.E.Sink.meaning _ _ _ _ c.in-Err.ensures.err.faults (c.in_ok-push-in-Err.ensures.ok ∙ ap (λ (fs : List Top). fs ++ top.OutFault ∷ []) c.in_ok-push.ensures.ok)
+
+pub returns-in_err-push-clause-alone : goal.returns-in_err-push-clause-alone
+returns-in_err-push-clause-alone g c = λ all. or_same c.args.fault _ _ c.in_err-push.ensures.err all
+
+pub returns-in_err-text-clause-alone : goal.returns-in_err-text-clause-alone
+returns-in_err-text-clause-alone g c = λ all. or_more c.args.fault _ c.args.fault _ c.in_ok-push.ensures.ok (inl refl) all
+
+pub returns-in-Ok-clause-alone : goal.returns-in-Ok-clause-alone
+returns-in-Ok-clause-alone g c = λ all. or_more c.args.fault _ c.args.fault _ c.in_ok-push.ensures.ok (inl refl) all
+
+pub returns-in-Ok-clause-holds : goal.returns-in-Ok-clause-holds
+returns-in-Ok-clause-holds g c = has_pushed _ c.args.fault _ c.in_ok-push.ensures.ok
+
+pub returns-in_err-push-in-Err-clause-alone : goal.returns-in_err-push-in-Err-clause-alone
+returns-in_err-push-in-Err-clause-alone g c = λ all. or_more c.args.fault _ c.args.fault _ (c.in_err-push-in-Err.ensures.err ∙ c.in_ok-push.ensures.ok) (inl refl) all
+
+pub returns-clause-alone : goal.returns-clause-alone
+returns-clause-alone g c = λ all.
+    or_more c.args.fault _ top.OutFault _ c.in_ok-push-in-Err.ensures.ok (inr refl) (or_more c.args.fault _ c.args.fault _ c.in_ok-push.ensures.ok (inl refl) all)
+
+pub returns-clause-holds : goal.returns-clause-holds
+returns-clause-holds g c = has_before _ c.args.fault top.OutFault _ c.in_ok-push-in-Err.ensures.ok (has_pushed _ c.args.fault _ c.in_ok-push.ensures.ok)

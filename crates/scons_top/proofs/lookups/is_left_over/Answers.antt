@@ -1,3 +1,6 @@
+use Rattle.scons_top.proofs.Opening.{bytes_exit, bytes_list}
+use Rattle.scons_top.specs.declared.step.Step.TheVariants as step
+use Rattle.scons_top.proofs.Stepping.{stops_exit, stops_list, look_at}
 use Rattle.scons_top.proofs.Watching.{watches_on}
 use Rattle.scons_top.proofs.Causing.{world_back, world_exit, look_exit}
 use Rattle.scons_top.proofs.lookups.is_left_over.Goals as goal
@@ -15,3 +18,15 @@ returns-in_err-has_leftover-clause-step g c =
 
 pub returns-clause-watches : goal.returns-clause-watches
 returns-clause-watches g c = watches_on _ _ _ _ c.read_records.ensures.watches c.has_leftover.ensures.watches
+
+pub returns-in_err-read_records-clause-stops : goal.returns-in_err-read_records-clause-stops
+returns-in_err-read_records-clause-stops g c = stops_exit step.Requests c.from_residual.result _ c.from_residual.ensures.1 c.in_err-read_records.ensures.stops
+
+pub returns-in_err-has_leftover-clause-stops : goal.returns-in_err-has_leftover-clause-stops
+returns-in_err-has_leftover-clause-stops g c = stops_list step.Requests c.from_residual-in_err-has_leftover.result _ c.from_residual-in_err-has_leftover.ensures.1 (look_at _ _ _ c.in_err-has_leftover.ensures.cause)
+
+pub returns-in_err-read_records-clause-bytes : goal.returns-in_err-read_records-clause-bytes
+returns-in_err-read_records-clause-bytes g c = λ t. bytes_exit _ c.from_residual.result _ c.from_residual.ensures.1 (c.in_err-read_records.ensures.bytes t)
+
+pub returns-in_err-has_leftover-clause-bytes : goal.returns-in_err-has_leftover-clause-bytes
+returns-in_err-has_leftover-clause-bytes g c = λ t. bytes_list _ c.from_residual-in_err-has_leftover.result _ c.from_residual-in_err-has_leftover.ensures.1

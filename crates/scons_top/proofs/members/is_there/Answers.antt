@@ -1,3 +1,6 @@
+use Rattle.scons_top.proofs.Opening.{bytes_list, bytes_after, bytes_exit}
+use Rattle.scons_top.specs.declared.step.Step.TheVariants as step
+use Rattle.scons_top.proofs.Stepping.{stops_list, look_at, stops_exit}
 use Rattle.std.proofs.Common.{◌∙◌}
 use Rattle.scons_top.proofs.Watching.{watches_on}
 use Rattle.scons_top.proofs.Causing.{world_back, world_exit, look_exit}
@@ -19,3 +22,18 @@ returns-clause-watches g c = watches_on _ _ _ _ c.stands.ensures.watches c.is_le
 
 pub returns-clause-step : goal.returns-clause-step
 returns-clause-step g c = c.in_ok-is_left_over.ensures.step ∙ c.in_ok-stands.ensures.cause
+
+pub returns-in_err-stands-clause-stops : goal.returns-in_err-stands-clause-stops
+returns-in_err-stands-clause-stops g c = stops_list step.Requests c.from_residual.result _ c.from_residual.ensures.1 (look_at _ _ _ c.in_err-stands.ensures.cause)
+
+pub returns-in_err-is_left_over-clause-stops : goal.returns-in_err-is_left_over-clause-stops
+returns-in_err-is_left_over-clause-stops g c = stops_exit step.Requests c.from_residual-in_err-is_left_over.result _ c.from_residual-in_err-is_left_over.ensures.1 c.in_err-is_left_over.ensures.stops
+
+pub returns-in_err-stands-clause-bytes : goal.returns-in_err-stands-clause-bytes
+returns-in_err-stands-clause-bytes g c = λ t. bytes_list _ c.from_residual.result _ c.from_residual.ensures.1
+
+pub returns-in_err-is_left_over-clause-bytes : goal.returns-in_err-is_left_over-clause-bytes
+returns-in_err-is_left_over-clause-bytes g c = 
+    let r = c.from_residual-in_err-is_left_over in
+    bytes_after g.W.Disk.meaning c.args.world.now c.stands.new.world c.is_left_over.new.world r.result c.stands.ensures.watches.looks c.is_left_over.ensures.watches.looks.told.told
+    (λ t. bytes_exit _ r.result _ r.ensures.1 (c.in_err-is_left_over.ensures.bytes t))

@@ -1,5 +1,5 @@
 use Rattle.scons_top.proofs.Causing.{memory_top}
 use Rattle.scons_top.proofs.reading.no_top.Goals as goal
 
-pub returns-in-Err : goal.returns-in-Err
-returns-in-Err c = memory_top
+pub returns-in-Err-clause-top : goal.returns-in-Err-clause-top
+returns-in-Err-clause-top c = memory_top

@@ -1,3 +1,5 @@
+use Rattle.scons_top.specs.declared.step.Step.TheVariants as step
+use Rattle.scons_top.proofs.Stepping.{stops_exit, sink_at, host_at}
 use Rattle.std.proofs.Common.{◌∙◌}
 use Rattle.scons_top.proofs.Watching.{watches_on}
 use Rattle.scons_top.proofs.Causing.{same_world, same_out, host_same, exit_step, world_stop, sink_stop, host_end_at, stop_back}
@@ -13,6 +15,8 @@ returns-in_err-say-clause-steps g c = λ err.
 
 pub returns-in_err-graph : goal.returns-in_err-graph
 returns-in_err-graph g c = record {
+  reading = tt;
+  stops = let r = c.from_residual-in_err-graph in stops_exit step.Reading r.result _ r.ensures.1 (host_at _);
   watches = watches_on _ _ _ _ c.ask_for_top.ensures.watches c.graph_of.ensures.watches;
   steps = λ err.
       let r = c.from_residual-in_err-graph in
@@ -22,6 +26,8 @@ returns-in_err-graph g c = record {
 
 pub returns-in_err-say-2 : goal.returns-in_err-say-2
 returns-in_err-say-2 g c = record {
+  reading = tt;
+  stops = let r = c.from_residual-in_err-say-2 in stops_exit step.Reading r.result _ r.ensures.1 (sink_at step.Reading _ _ _ c.in_err-say-2.ensures.step);
   watches = watches_on _ _ _ _ c.ask_for_top.ensures.watches c.graph_of.ensures.watches;
   steps = λ err.
       let r = c.from_residual-in_err-say-2 in
@@ -31,6 +37,14 @@ returns-in_err-say-2 g c = record {
 
 pub returns : goal.returns
 returns g c = record {
+  reading = tt;
+  stops = tt;
   watches = watches_on _ _ _ _ c.ask_for_top.ensures.watches c.graph_of.ensures.watches;
   steps = λ err. same_out _ _ _ err c.in_ok-say-2.ensures.step ∙ (host_same _ _ _ _ err c.in_ok-graph.ensures.causes ∙ (same_out _ _ _ err c.in_ok-say.ensures.step ∙ same_world _ _ _ err c.in_ok-ask_for_top.ensures.step));
 }
+
+pub returns-in_err-ask_for_top-clause-stops : goal.returns-in_err-ask_for_top-clause-stops
+returns-in_err-ask_for_top-clause-stops g c = stops_exit step.Top c.from_residual.result _ c.from_residual.ensures.1 c.in_err-ask_for_top.ensures.stops
+
+pub returns-in_err-say-clause-stops : goal.returns-in_err-say-clause-stops
+returns-in_err-say-clause-stops g c = let r = c.from_residual-in_err-say in stops_exit step.Reading r.result _ r.ensures.1 (sink_at step.Reading _ _ _ c.in_err-say.ensures.step)

@@ -1,5 +1,14 @@
+use Rattle.scons_top.proofs.Opening.{bytes_memory}
+use Rattle.scons_top.specs.declared.step.Step.TheVariants as step
+use Rattle.scons_top.proofs.Stepping.{stops_memory}
 use Rattle.scons_top.proofs.Causing.{inner_memory}
 use Rattle.scons_top.proofs.requests.absent_request.Goals as goal
 
 pub returns-in_err-nodes-clause-step : goal.returns-in_err-nodes-clause-step
 returns-in_err-nodes-clause-step c = inner_memory c.from_residual.result c.from_residual.ensures.1
+
+pub returns-in_err-nodes-clause-stops : goal.returns-in_err-nodes-clause-stops
+returns-in_err-nodes-clause-stops c = stops_memory step.Requests c.from_residual.result c.from_residual.ensures.1
+
+pub returns-in_err-nodes-clause-bytes : goal.returns-in_err-nodes-clause-bytes
+returns-in_err-nodes-clause-bytes c = λ banks. bytes_memory banks c.from_residual.result c.from_residual.ensures.1

@@ -1,3 +1,6 @@
+use Rattle.scons_top.proofs.Opening.{bytes_list, bytes_after, bytes_memory}
+use Rattle.scons_top.specs.declared.step.Step.TheVariants as step
+use Rattle.scons_top.proofs.Stepping.{stops_list, look_at, stops_memory}
 use Rattle.scons_top.proofs.Watching.{watches_on}
 use Rattle.scons_top.proofs.Causing.{look_exit, inner_step, world_back, world_memory}
 use Rattle.scons_top.proofs.requests.file_request.Goals as goal
@@ -19,3 +22,26 @@ returns-in_ok-targets_below-in-Dir-clause-step g c = inner_step _ _ c.made.resul
 
 pub returns-in-Absent-clause-step : goal.returns-in-Absent-clause-step
 returns-in-Absent-clause-step g c = inner_step _ _ c.absent_request.result c.in_ok-kind_of.ensures.cause c.absent_request.ensures.step
+
+pub returns-in_err-kind_of-clause-stops : goal.returns-in_err-kind_of-clause-stops
+returns-in_err-kind_of-clause-stops g c = stops_list step.Requests c.from_residual.result _ c.from_residual.ensures.1 (look_at _ _ _ c.in_err-kind_of.ensures.cause)
+
+pub returns-in_err-targets_below-in-Dir-clause-stops : goal.returns-in_err-targets_below-in-Dir-clause-stops
+returns-in_err-targets_below-in-Dir-clause-stops g c = stops_memory step.Requests c.from_residual-in_err-targets_below-in-Dir.result c.from_residual-in_err-targets_below-in-Dir.ensures.1
+
+pub returns-in_err-kind_of-clause-bytes : goal.returns-in_err-kind_of-clause-bytes
+returns-in_err-kind_of-clause-bytes g c = λ t. bytes_list _ c.from_residual.result _ c.from_residual.ensures.1
+
+pub returns-in-File-clause-bytes : goal.returns-in-File-clause-bytes
+returns-in-File-clause-bytes g c = 
+    bytes_after g.W.Disk.meaning c.args.world.now c.kind_of.new.world c.plain_request.new.world c.plain_request.result c.kind_of.ensures.watches.looks c.plain_request.ensures.watches.looks.told.told
+    c.plain_request.ensures.bytes
+
+pub returns-in_err-targets_below-in-Dir-clause-bytes : goal.returns-in_err-targets_below-in-Dir-clause-bytes
+returns-in_err-targets_below-in-Dir-clause-bytes g c = λ t. bytes_memory _ c.from_residual-in_err-targets_below-in-Dir.result c.from_residual-in_err-targets_below-in-Dir.ensures.1
+
+pub returns-in_ok-targets_below-in-Dir-clause-bytes : goal.returns-in_ok-targets_below-in-Dir-clause-bytes
+returns-in_ok-targets_below-in-Dir-clause-bytes g c = λ t. c.made.ensures.bytes _
+
+pub returns-in-Absent-clause-bytes : goal.returns-in-Absent-clause-bytes
+returns-in-Absent-clause-bytes g c = λ t. c.absent_request.ensures.bytes _

@@ -1,3 +1,6 @@
+use Rattle.scons_top.proofs.Opening.{bytes_exit}
+use Rattle.scons_top.specs.declared.step.Step.TheVariants as step
+use Rattle.scons_top.proofs.Stepping.{stops_exit}
 use Rattle.scons_top.proofs.Causing.{inner_step, world_exit}
 use Rattle.scons_top.proofs.requests.plain_request.Goals as goal
 
@@ -9,3 +12,15 @@ returns-then-branch-clause-step g c = inner_step _ _ c.absent_request.result c.i
 
 pub returns-clause-step : goal.returns-clause-step
 returns-clause-step g c = inner_step _ _ c.node_request.result c.in_ok-is_left_over.ensures.step c.node_request.ensures.step
+
+pub returns-in_err-is_left_over-clause-stops : goal.returns-in_err-is_left_over-clause-stops
+returns-in_err-is_left_over-clause-stops g c = stops_exit step.Requests c.from_residual.result _ c.from_residual.ensures.1 c.in_err-is_left_over.ensures.stops
+
+pub returns-in_err-is_left_over-clause-bytes : goal.returns-in_err-is_left_over-clause-bytes
+returns-in_err-is_left_over-clause-bytes g c = λ t. bytes_exit _ c.from_residual.result _ c.from_residual.ensures.1 (c.in_err-is_left_over.ensures.bytes t)
+
+pub returns-then-branch-clause-bytes : goal.returns-then-branch-clause-bytes
+returns-then-branch-clause-bytes g c = λ t. c.absent_request.ensures.bytes _
+
+pub returns-clause-bytes : goal.returns-clause-bytes
+returns-clause-bytes g c = λ t. c.node_request.ensures.bytes _

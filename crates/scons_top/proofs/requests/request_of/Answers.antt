@@ -1,3 +1,6 @@
+use Rattle.scons_top.proofs.Opening.{bytes_memory, bytes_exit, bytes_list, bytes_after}
+use Rattle.scons_top.specs.declared.step.Step.TheVariants as step
+use Rattle.scons_top.proofs.Stepping.{stops_memory, stops_exit, stops_list, look_at}
 use Rattle.std.proofs.Common.{refl}
 use Rattle.scons_top.proofs.Watching.{watches_on}
 use Rattle.scons_top.proofs.Causing.{world_back, world_exit, look_exit, inner_step, world_memory}
@@ -13,7 +16,7 @@ pub returns-in_err-check_members-clause-step : goal.returns-in_err-check_members
 returns-in_err-check_members-clause-step g c = let r = c.from_residual-in_err-check_members in world_exit _ _ r.result _ r.ensures.1 c.in_err-check_members.ensures.step
 
 pub returns-in_default-read-clause-step : goal.returns-in_default-read-clause-step
-returns-in_default-read-clause-step g c = c.unknown.ensures _
+returns-in_default-read-clause-step g c = c.unknown.ensures.inside _
 
 pub returns-in_err-path-clause-step : goal.returns-in_err-path-clause-step
 returns-in_err-path-clause-step g c = let r = c.from_residual-in_err-path in world_memory _ _ r.result r.ensures.1 refl
@@ -29,3 +32,41 @@ returns-clause-watches g c = watches_on _ _ _ _ c.has_rule.ensures.watches c.fil
 
 pub returns-clause-step : goal.returns-clause-step
 returns-clause-step g c = world_back _ _ _ c.file_request.result c.in_ok-has_rule.ensures.cause c.file_request.ensures.step
+
+pub returns-in_err-nodes-clause-stops : goal.returns-in_err-nodes-clause-stops
+returns-in_err-nodes-clause-stops g c = stops_memory step.Requests c.from_residual.result c.from_residual.ensures.1
+
+pub returns-in_err-check_members-clause-stops : goal.returns-in_err-check_members-clause-stops
+returns-in_err-check_members-clause-stops g c = stops_exit step.Requests c.from_residual-in_err-check_members.result _ c.from_residual-in_err-check_members.ensures.1 c.in_err-check_members.ensures.stops
+
+pub returns-in_err-path-clause-stops : goal.returns-in_err-path-clause-stops
+returns-in_err-path-clause-stops g c = stops_memory step.Requests c.from_residual-in_err-path.result c.from_residual-in_err-path.ensures.1
+
+pub returns-in_err-has_rule-clause-stops : goal.returns-in_err-has_rule-clause-stops
+returns-in_err-has_rule-clause-stops g c = stops_list step.Requests c.from_residual-in_err-has_rule.result _ c.from_residual-in_err-has_rule.ensures.1 (look_at _ _ _ c.in_err-has_rule.ensures.cause)
+
+pub returns-in_err-nodes-clause-bytes : goal.returns-in_err-nodes-clause-bytes
+returns-in_err-nodes-clause-bytes g c = λ t. bytes_memory _ c.from_residual.result c.from_residual.ensures.1
+
+pub returns-in-Some-clause-bytes : goal.returns-in-Some-clause-bytes
+returns-in-Some-clause-bytes g c = λ t. c.made.ensures.bytes _
+
+pub returns-in_err-check_members-clause-bytes : goal.returns-in_err-check_members-clause-bytes
+returns-in_err-check_members-clause-bytes g c = λ t. bytes_exit _ c.from_residual-in_err-check_members.result _ c.from_residual-in_err-check_members.ensures.1 (c.in_err-check_members.ensures.bytes t)
+
+pub returns-in_default-read-clause-bytes : goal.returns-in_default-read-clause-bytes
+returns-in_default-read-clause-bytes g c = λ t. c.unknown.ensures.bytes _
+
+pub returns-in_err-path-clause-bytes : goal.returns-in_err-path-clause-bytes
+returns-in_err-path-clause-bytes g c = λ t. bytes_memory _ c.from_residual-in_err-path.result c.from_residual-in_err-path.ensures.1
+
+pub returns-in_err-has_rule-clause-bytes : goal.returns-in_err-has_rule-clause-bytes
+returns-in_err-has_rule-clause-bytes g c = λ t. bytes_list _ c.from_residual-in_err-has_rule.result _ c.from_residual-in_err-has_rule.ensures.1
+
+pub returns-then-branch-clause-bytes : goal.returns-then-branch-clause-bytes
+returns-then-branch-clause-bytes g c = λ t. c.node_request.ensures.bytes _
+
+pub returns-clause-bytes : goal.returns-clause-bytes
+returns-clause-bytes g c = 
+    bytes_after g.W.Disk.meaning c.args.world.now c.has_rule.new.world c.file_request.new.world c.file_request.result c.has_rule.ensures.watches.looks c.file_request.ensures.watches.looks.told.told
+    c.file_request.ensures.bytes

@@ -1,3 +1,6 @@
+use Rattle.scons_top.proofs.Opening.{bytes_after, bytes_exit, bytes_memory}
+use Rattle.scons_top.specs.declared.step.Step.TheVariants as step
+use Rattle.scons_top.proofs.Stepping.{stops_exit, stops_memory}
 use Rattle.std.proofs.Common.{◌∙◌}
 use Rattle.scons_top.proofs.Requesting.{asks_pushed}
 use Rattle.scons_top.proofs.Watching.{watches_on}
@@ -24,3 +27,17 @@ returns-in_err-request_of-clause-step g c = world_back _ _ _ c.from_residual.res
 
 pub returns-in_err-push-clause-step : goal.returns-in_err-push-clause-step
 returns-in_err-push-clause-step g c = let r = c.from_residual-in_err-push in world_memory _ _ r.result r.ensures.1 (c.in_ok-request_of.ensures.step ∙ c.loop-word.invariant.same)
+
+pub returns-in_err-request_of-clause-stops : goal.returns-in_err-request_of-clause-stops
+returns-in_err-request_of-clause-stops g c = stops_exit step.Requests c.from_residual.result _ c.from_residual.ensures.1 c.in_err-request_of.ensures.stops
+
+pub returns-in_err-push-clause-stops : goal.returns-in_err-push-clause-stops
+returns-in_err-push-clause-stops g c = stops_memory step.Requests c.from_residual-in_err-push.result c.from_residual-in_err-push.ensures.1
+
+pub returns-in_err-request_of-clause-bytes : goal.returns-in_err-request_of-clause-bytes
+returns-in_err-request_of-clause-bytes g c = 
+    bytes_after g.W.Disk.meaning c.args.world.now c.loop-word.world c.request_of.new.world c.from_residual.result c.loop-word.invariant.watches.looks c.request_of.ensures.watches.looks.told.told
+    (λ t. bytes_exit _ c.from_residual.result _ c.from_residual.ensures.1 (c.in_err-request_of.ensures.bytes t))
+
+pub returns-in_err-push-clause-bytes : goal.returns-in_err-push-clause-bytes
+returns-in_err-push-clause-bytes g c = λ t. bytes_memory _ c.from_residual-in_err-push.result c.from_residual-in_err-push.ensures.1

@@ -1,3 +1,8 @@
+use Rattle.scons_top.proofs.Opening.{reading_ends, help_ends, run_after, stops_unopened}
+use Rattle.scons_top.proofs.Clearing.{not_reading, cleans_after}
+use Rattle.scons_top.specs.declared.step.Step.TheVariants as step
+use Rattle.scons_top.proofs.Watching.{watches_on}
+use Rattle.scons_top.proofs.Stepping.{reading_runs, serves_runs, leaves_reading, leaves_after, ends_exit}
 use Rattle.scons_top.proofs.Stopping.{runs_by, runs_on, steps_looked}
 use Rattle.world_api.proofs.Looking.{looks_joined}
 use Rattle.scons_top.proofs.Early.{any_stop, stop_after}
@@ -76,3 +81,65 @@ returns-clause-safe g c =
     (steps_looked g.W.Disk.meaning g.met.W.Disk.only_now c.args.world.now c.requests_of.new.world
     (looks_joined _ _ _ _ c.read.ensures.watches.looks c.requests_of.ensures.watches.looks))
     (c.serve.ensures.safe (subst (AskForNodes c.requests_of.new.graph) (sym c.as_slice.ensures.value) c.in_ok-requests.ensures.nodes))
+
+pub returns-in_err-graph-clause-comes : goal.returns-in_err-graph-clause-comes
+returns-in_err-graph-clause-comes g c = reading_runs c.args.words.now c.read.new.at c.read.ensures.reading
+
+pub returns-clause-comes : goal.returns-clause-comes
+returns-clause-comes g c = serves_runs c.args.words.now c.serve.new.at c.if-words.false c.serve.ensures.serves
+
+pub returns-in_err-graph-clause-leaves : goal.returns-in_err-graph-clause-leaves
+returns-in_err-graph-clause-leaves g c = leaves_reading _ _ _ _ c.read.ensures.reading c.read.ensures.watches.looks
+
+pub returns-then-words-clause-leaves : goal.returns-then-words-clause-leaves
+returns-then-words-clause-leaves g c = c.read.ensures.watches.looks
+
+pub returns-in_err-requests-clause-leaves : goal.returns-in_err-requests-clause-leaves
+returns-in_err-requests-clause-leaves g c = looks_joined _ _ _ _ c.read.ensures.watches.looks c.requests_of.ensures.watches.looks
+
+pub returns-clause-leaves : goal.returns-clause-leaves
+returns-clause-leaves g c = leaves_after _ _ _ _ _ (watches_on _ _ _ _ c.read.ensures.watches c.requests_of.ensures.watches) c.serve.ensures.leaves
+
+pub returns-in_err-graph-clause-ends : goal.returns-in_err-graph-clause-ends
+returns-in_err-graph-clause-ends g c = ends_exit _ c.from_residual.result _ c.from_residual.ensures.1 c.in_err-graph.ensures.stops
+
+pub returns-then-words-clause-ends : goal.returns-then-words-clause-ends
+returns-then-words-clause-ends g c = c.help.ensures.ends
+
+pub returns-in_err-requests-clause-ends : goal.returns-in_err-requests-clause-ends
+returns-in_err-requests-clause-ends g c = let r = c.from_residual-in_err-requests in ends_exit step.Requests r.result _ r.ensures.1 c.in_err-requests.ensures.stops
+
+pub returns-clause-ends : goal.returns-clause-ends
+returns-clause-ends g c = c.serve.ensures.ends
+
+pub returns-in_err-graph-clause-cleans : goal.returns-in_err-graph-clause-cleans
+returns-in_err-graph-clause-cleans g c = λ is. not_reading _ c.read.ensures.reading is
+
+pub returns-then-words-clause-cleans : goal.returns-then-words-clause-cleans
+returns-then-words-clause-cleans g c = λ is. absurd (let no = is in cc)
+
+pub returns-in_err-requests-clause-cleans : goal.returns-in_err-requests-clause-cleans
+returns-in_err-requests-clause-cleans g c = λ is. absurd (let no = is in cc)
+
+pub returns-clause-cleans : goal.returns-clause-cleans
+returns-clause-cleans g c =
+    cleans_after g.W.Disk.meaning c.args.words.now _ c.args.world.now c.requests_of.new.world c.serve.new.world c.serve.result
+    (watches_on _ _ _ _ c.read.ensures.watches c.requests_of.ensures.watches) c.requires.idle c.serve.ensures.passes.told.told
+    (c.serve.ensures.cleans (subst (AskForNodes c.requests_of.new.graph) (sym c.as_slice.ensures.value) c.in_ok-requests.ensures.nodes))
+
+pub returns-in_err-graph-clause-bytes : goal.returns-in_err-graph-clause-bytes
+returns-in_err-graph-clause-bytes g c = λ t. reading_ends _ _ c.from_residual.result c.read.ensures.reading (returns-in_err-graph-clause-ends g c)
+
+pub returns-then-words-clause-bytes : goal.returns-then-words-clause-bytes
+returns-then-words-clause-bytes g c = λ t. help_ends _ c.help.result c.help.ensures.ends
+
+pub returns-in_err-requests-clause-bytes : goal.returns-in_err-requests-clause-bytes
+returns-in_err-requests-clause-bytes g c = 
+    let r = c.from_residual-in_err-requests in
+    run_after g.W.Disk.meaning step.Requests c.args.world.now c.read.new.world c.requests_of.new.world r.result c.read.ensures.watches.looks c.requests_of.ensures.watches.looks.told.told
+    (λ t. stops_unopened _ step.Requests r.result _ r.ensures.1 (λ o. o) (c.in_err-requests.ensures.bytes t))
+
+pub returns-clause-bytes : goal.returns-clause-bytes
+returns-clause-bytes g c = 
+    run_after g.W.Disk.meaning _ c.args.world.now c.requests_of.new.world c.serve.new.world c.serve.result
+    (looks_joined _ _ _ _ c.read.ensures.watches.looks c.requests_of.ensures.watches.looks) c.serve.ensures.passes.told.told c.serve.ensures.bytes

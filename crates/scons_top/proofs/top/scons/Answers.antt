@@ -1,3 +1,6 @@
+use Rattle.scons_top.proofs.Opening.{report_bytes, stopped_bytes}
+use Rattle.scons_top.proofs.Clearing.{cleans_report, cleans_stop}
+use Rattle.scons_top.proofs.Stepping.{comes_as, leaves_as, faults_as, alone_at, refuses, reports_refused, usage_told, usage_reported}
 use Rattle.std.proofs.Common.{inl, inr}
 use Rattle.scons_top.proofs.top.scons.Goals as goal
 
@@ -9,3 +12,47 @@ returns-in-Ok-clause-builds g c = λ said is ask tells sure. inl (c.in-Ok.ensure
 
 pub returns-in-Err-clause-builds : goal.returns-in-Err-clause-builds
 returns-in-Err-clause-builds g c = λ said is ask tells sure. inr (c.ended.ensures.fails, c.in-Err.ensures.builds said is ask tells sure)
+
+pub returns-in-Ok-clause-comes : goal.returns-in-Ok-clause-comes
+returns-in-Ok-clause-comes g c = λ said is. comes_as said _ _ c.in-Ok.ensures.ends.ends (c.in-Ok.ensures.comes said is)
+
+pub returns-in-Err-clause-comes : goal.returns-in-Err-clause-comes
+returns-in-Err-clause-comes g c = λ said is. comes_as said _ _ c.ended.ensures.at (c.in-Err.ensures.comes said is)
+
+pub returns-in-Ok-clause-leaves : goal.returns-in-Ok-clause-leaves
+returns-in-Ok-clause-leaves g c = leaves_as g.W.Disk.meaning _ _ _ _ c.in-Ok.ensures.ends.ends c.in-Ok.ensures.leaves
+
+pub returns-in-Err-clause-leaves : goal.returns-in-Err-clause-leaves
+returns-in-Err-clause-leaves g c = leaves_as g.W.Disk.meaning _ _ _ _ c.ended.ensures.at c.in-Err.ensures.leaves
+
+pub returns-in-Ok-clause-faults : goal.returns-in-Ok-clause-faults
+returns-in-Ok-clause-faults g c = faults_as _ _ _ c.in-Ok.ensures.ends.ends c.in-Ok.ensures.ends.faults
+
+pub returns-in-Err-clause-faults : goal.returns-in-Err-clause-faults
+returns-in-Err-clause-faults g c = faults_as _ _ _ c.ended.ensures.at (alone_at _ _ _ c.ended.ensures.alone c.in-Err.ensures.ends)
+
+pub returns-in-Ok-clause-refused : goal.returns-in-Ok-clause-refused
+returns-in-Ok-clause-refused g c = λ why is. reports_refused why _ _ _ _ _ c.in-Ok.report (c.in-Ok.ensures.refused why is)
+
+pub returns-in-Err-clause-refused : goal.returns-in-Err-clause-refused
+returns-in-Err-clause-refused g c = λ why is. refuses why _ _ _ _ _ _ c.ended.result (c.in-Err.ensures.refused why is) c.ended.ensures.at c.ended.ensures.told
+
+pub returns-in-Ok-clause-usage : goal.returns-in-Ok-clause-usage
+returns-in-Ok-clause-usage g c = λ place kind has. usage_reported _ _ _ place kind c.in-Ok.ensures.ends.faults c.in-Ok.ensures.past has
+
+pub returns-in-Err-clause-usage : goal.returns-in-Err-clause-usage
+returns-in-Err-clause-usage g c = λ place kind has. c.in-Err.ensures.usage place kind (usage_told _ _ place kind c.ended.ensures.alone has)
+
+pub returns-in-Ok-clause-cleans : goal.returns-in-Ok-clause-cleans
+returns-in-Ok-clause-cleans g c = λ said is.
+    cleans_report g.W.Disk.meaning said _ _ _ c.in-Ok.report c.in-Ok.ensures.ends.ends (c.in-Ok.ensures.cleans said is)
+
+pub returns-in-Err-clause-cleans : goal.returns-in-Err-clause-cleans
+returns-in-Err-clause-cleans g c = λ said is.
+    cleans_stop g.W.Disk.meaning said c.take_words.new.at c.args.world.now c.take_words.new.world c.in-Err.stop c.ended.result c.ended.ensures.at c.ended.ensures.fails (c.in-Err.ensures.cleans said is)
+
+pub returns-in-Ok-clause-bytes : goal.returns-in-Ok-clause-bytes
+returns-in-Ok-clause-bytes g c = λ t. report_bytes _ _ c.in-Ok.report c.in-Ok.ensures.ends.ends (c.in-Ok.ensures.bytes t)
+
+pub returns-in-Err-clause-bytes : goal.returns-in-Err-clause-bytes
+returns-in-Err-clause-bytes g c = λ t. stopped_bytes _ _ _ c.ended.result c.ended.ensures.at c.ended.ensures.alone (c.in-Err.ensures.bytes t)

@@ -1,3 +1,7 @@
+use Rattle.scons_top.proofs.Opening.{words_end, load_ends}
+use Rattle.scons_top.specs.Cleaned.{RunCleans}
+use Rattle.scons_top.specs.declared.step.Step.TheVariants as step
+use Rattle.scons_top.proofs.Stepping.{words_at, ends_exit, refused_words, not_refused, usage_words, usage_load, usage_run, load_comes, run_comes, none_loads, not_words, past_load, past_run}
 use Rattle.scons_top.proofs.Stopping.{runs_by, steps_here}
 use Rattle.std.proofs.Common.{inl, subst}
 use Rattle.world_api.proofs.Looking.{looks_same}
@@ -36,3 +40,75 @@ returns-in_err-words-clause-safe g c = runs_by _ _ _ (steps_here g.W.Disk.meanin
 
 pub returns-in-Some-clause-safe : goal.returns-in-Some-clause-safe
 returns-in-Some-clause-safe g c = runs_by _ _ _ (steps_here g.W.Disk.meaning g.met.W.Disk.only_now c.args.world.now)
+
+pub returns-in_err-words-clause-leaves : goal.returns-in_err-words-clause-leaves
+returns-in_err-words-clause-leaves g c = looks_same g.W.Disk.meaning c.args.world.now
+
+pub returns-in-Some-clause-leaves : goal.returns-in-Some-clause-leaves
+returns-in-Some-clause-leaves g c = looks_same g.W.Disk.meaning c.args.world.now
+
+pub returns-clause-leaves : goal.returns-clause-leaves
+returns-clause-leaves g c = c.run.ensures.leaves
+
+pub returns-in_err-words-clause-ends : goal.returns-in_err-words-clause-ends
+returns-in_err-words-clause-ends g c = ends_exit step.Words c.from_residual.result _ c.from_residual.ensures.1 (words_at _)
+
+pub returns-in-Some-clause-ends : goal.returns-in-Some-clause-ends
+returns-in-Some-clause-ends g c = c.load.ensures.ends
+
+pub returns-clause-ends : goal.returns-clause-ends
+returns-clause-ends g c = c.run.ensures.ends
+
+pub returns-in-Some-clause-comes : goal.returns-in-Some-clause-comes
+returns-in-Some-clause-comes g c = λ said is. load_comes c.in_ok-words.words said c.in-Some.rules (words_said (read c.args.words.now) c.in_ok-words.words said c.in_ok-words.ensures.ok is) c.in-Some.is
+
+pub returns-clause-comes : goal.returns-clause-comes
+returns-clause-comes g c = λ said is. run_comes c.in_ok-words.words said _ (words_said (read c.args.words.now) c.in_ok-words.words said c.in_ok-words.ensures.ok is) c.in-None.is c.run.ensures.comes
+
+pub returns-in_err-words-clause-refused : goal.returns-in_err-words-clause-refused
+returns-in_err-words-clause-refused g c = λ why is.
+    refused_words c.args.world.now c.args.out.now c.from_residual.result _ why (read c.args.words.now) c.from_residual.ensures.1 c.in_err-words.ensures.fault is
+
+pub returns-in-Some-clause-refused : goal.returns-in-Some-clause-refused
+returns-in-Some-clause-refused g c = λ why is. not_refused (read c.args.words.now) c.in_ok-words.words why c.in_ok-words.ensures.ok is
+
+pub returns-clause-refused : goal.returns-clause-refused
+returns-clause-refused g c = λ why is. not_refused (read c.args.words.now) c.in_ok-words.words why c.in_ok-words.ensures.ok is
+
+pub returns-in_err-words-clause-usage : goal.returns-in_err-words-clause-usage
+returns-in_err-words-clause-usage g c = usage_words c.from_residual.result _ (read c.args.words.now) c.from_residual.ensures.1 c.in_err-words.ensures.fault
+
+pub returns-in-Some-clause-usage : goal.returns-in-Some-clause-usage
+returns-in-Some-clause-usage g c = usage_load (read c.args.words.now) c.load.result c.load.ensures.ends
+
+pub returns-clause-usage : goal.returns-clause-usage
+returns-clause-usage g c = usage_run _ c.in_ok-words.words (read c.args.words.now) c.run.result c.run.ensures.ends c.run.ensures.comes
+
+pub returns-in-Some-clause-past : goal.returns-in-Some-clause-past
+returns-in-Some-clause-past g c = past_load c.load.result
+
+pub returns-clause-past : goal.returns-clause-past
+returns-clause-past g c = past_run c.in_ok-words.words _ c.run.result c.run.ensures.comes
+
+pub returns-clause-load : goal.returns-clause-load
+returns-clause-load g c = λ said is some. none_loads c.in_ok-words.words said (words_said (read c.args.words.now) c.in_ok-words.words said c.in_ok-words.ensures.ok is) c.in-None.is some
+
+pub returns-in_err-words-clause-cleans : goal.returns-in_err-words-clause-cleans
+returns-in_err-words-clause-cleans g c = λ said is at. absurd (let no = at in cc)
+
+pub returns-in-Some-clause-cleans : goal.returns-in-Some-clause-cleans
+returns-in-Some-clause-cleans g c = λ said is at. absurd (let no = at in cc)
+
+pub returns-clause-cleans : goal.returns-clause-cleans
+returns-clause-cleans g c = λ said is.
+    subst (λ (s : Words). RunCleans g.W.Disk.meaning s c.run.new.at c.args.world.now c.run.new.world c.run.result)
+    (words_said (read c.args.words.now) c.in_ok-words.words said c.in_ok-words.ensures.ok is) c.run.ensures.cleans
+
+pub returns-in_err-words-clause-bytes : goal.returns-in_err-words-clause-bytes
+returns-in_err-words-clause-bytes g c = λ t. words_end _ c.from_residual.result (returns-in_err-words-clause-ends g c)
+
+pub returns-in-Some-clause-bytes : goal.returns-in-Some-clause-bytes
+returns-in-Some-clause-bytes g c = λ t. load_ends _ c.load.result c.load.ensures.ends
+
+pub returns-clause-bytes : goal.returns-clause-bytes
+returns-clause-bytes g c = c.run.ensures.bytes

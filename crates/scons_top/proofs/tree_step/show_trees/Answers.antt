@@ -1,3 +1,5 @@
+use Rattle.scons_top.specs.declared.step.Step.TheVariants as step
+use Rattle.scons_top.proofs.Stepping.{ends_exit, sink_at, building_fault}
 use Rattle.std.proofs.Common.{◌∙◌}
 use Rattle.scons_top.proofs.Causing.{same_out, report_back}
 use Rattle.scons_top.proofs.Shown.{file_shown}
@@ -13,3 +15,9 @@ returns-in_default-clause-reports g c =
     let cause = file_shown old new before after i.field-0 i.fault i.field-0-is c.in_default.not-OutFault i.ensures.cause in
     report_back _ _ _ c.end_with.result (same_out old (g.O.Sink.meaning.faults c.args.out.now) after _ (cause.1 ∙ c.in_ok-tell_requests.ensures.step))
     (c.end_with.ensures.reports old new cause.0)
+
+pub returns-in_err-tell_requests-clause-ends : goal.returns-in_err-tell_requests-clause-ends
+returns-in_err-tell_requests-clause-ends g c = let r = c.from_residual in ends_exit step.Building r.result _ r.ensures.1 (sink_at step.Building _ _ _ c.in_err-tell_requests.ensures.step)
+
+pub returns-in_default-clause-ends : goal.returns-in_default-clause-ends
+returns-in_default-clause-ends g c = c.end_with.ensures.ends (building_fault _)
