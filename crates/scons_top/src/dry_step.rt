@@ -136,14 +136,7 @@ pub(crate) fn end_with<O: Sink, E: Sink>(
     let printed = print(err, text.as_str());
     let written = tell_faulty(alloc, words, faults.as_slice(), out);
     let lost = add_unprinted(&mut faults, printed);
-    Ok(closed(
-        alloc,
-        faults,
-        Listing::empty(alloc),
-        lost,
-        written,
-        step,
-    ))
+    Ok(closed(alloc, faults, Listing::empty(alloc), lost, written, step))
 }
 
 /// Adds the fault that a text wasn't printed, and says whether memory was wanting.

@@ -24,6 +24,6 @@ pub returns-in_err-check_member-clause-stops : goal.returns-in_err-check_member-
 returns-in_err-check_member-clause-stops g c = stops_exit step.Requests c.from_residual.result _ c.from_residual.ensures.1 c.in_err-check_member.ensures.stops
 
 pub returns-in_err-check_member-clause-bytes : goal.returns-in_err-check_member-clause-bytes
-returns-in_err-check_member-clause-bytes g c = 
+returns-in_err-check_member-clause-bytes g c =
     bytes_after g.W.Disk.meaning c.args.world.now c.loop-member.world c.check_member.new.world c.from_residual.result c.loop-member.invariant.watches.looks c.check_member.ensures.watches.looks.told.told
     (λ t. bytes_exit _ c.from_residual.result _ c.from_residual.ensures.1 (c.in_err-check_member.ensures.bytes t))

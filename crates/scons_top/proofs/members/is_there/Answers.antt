@@ -33,7 +33,7 @@ pub returns-in_err-stands-clause-bytes : goal.returns-in_err-stands-clause-bytes
 returns-in_err-stands-clause-bytes g c = λ t. bytes_list _ c.from_residual.result _ c.from_residual.ensures.1
 
 pub returns-in_err-is_left_over-clause-bytes : goal.returns-in_err-is_left_over-clause-bytes
-returns-in_err-is_left_over-clause-bytes g c = 
+returns-in_err-is_left_over-clause-bytes g c =
     let r = c.from_residual-in_err-is_left_over in
     bytes_after g.W.Disk.meaning c.args.world.now c.stands.new.world c.is_left_over.new.world r.result c.stands.ensures.watches.looks c.is_left_over.ensures.watches.looks.told.told
     (λ t. bytes_exit _ r.result _ r.ensures.1 (c.in_err-is_left_over.ensures.bytes t))

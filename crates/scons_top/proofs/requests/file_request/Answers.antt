@@ -33,7 +33,7 @@ pub returns-in_err-kind_of-clause-bytes : goal.returns-in_err-kind_of-clause-byt
 returns-in_err-kind_of-clause-bytes g c = λ t. bytes_list _ c.from_residual.result _ c.from_residual.ensures.1
 
 pub returns-in-File-clause-bytes : goal.returns-in-File-clause-bytes
-returns-in-File-clause-bytes g c = 
+returns-in-File-clause-bytes g c =
     bytes_after g.W.Disk.meaning c.args.world.now c.kind_of.new.world c.plain_request.new.world c.plain_request.result c.kind_of.ensures.watches.looks c.plain_request.ensures.watches.looks.told.told
     c.plain_request.ensures.bytes
 

@@ -67,6 +67,6 @@ pub returns-then-branch-clause-bytes : goal.returns-then-branch-clause-bytes
 returns-then-branch-clause-bytes g c = λ t. c.node_request.ensures.bytes _
 
 pub returns-clause-bytes : goal.returns-clause-bytes
-returns-clause-bytes g c = 
+returns-clause-bytes g c =
     bytes_after g.W.Disk.meaning c.args.world.now c.has_rule.new.world c.file_request.new.world c.file_request.result c.has_rule.ensures.watches.looks c.file_request.ensures.watches.looks.told.told
     c.file_request.ensures.bytes

@@ -35,7 +35,7 @@ pub returns-in_err-push-clause-stops : goal.returns-in_err-push-clause-stops
 returns-in_err-push-clause-stops g c = stops_memory step.Requests c.from_residual-in_err-push.result c.from_residual-in_err-push.ensures.1
 
 pub returns-in_err-request_of-clause-bytes : goal.returns-in_err-request_of-clause-bytes
-returns-in_err-request_of-clause-bytes g c = 
+returns-in_err-request_of-clause-bytes g c =
     bytes_after g.W.Disk.meaning c.args.world.now c.loop-word.world c.request_of.new.world c.from_residual.result c.loop-word.invariant.watches.looks c.request_of.ensures.watches.looks.told.told
     (λ t. bytes_exit _ c.from_residual.result _ c.from_residual.ensures.1 (c.in_err-request_of.ensures.bytes t))
 

@@ -134,12 +134,12 @@ pub returns-then-words-clause-bytes : goal.returns-then-words-clause-bytes
 returns-then-words-clause-bytes g c = λ t. help_ends _ c.help.result c.help.ensures.ends
 
 pub returns-in_err-requests-clause-bytes : goal.returns-in_err-requests-clause-bytes
-returns-in_err-requests-clause-bytes g c = 
+returns-in_err-requests-clause-bytes g c =
     let r = c.from_residual-in_err-requests in
     run_after g.W.Disk.meaning step.Requests c.args.world.now c.read.new.world c.requests_of.new.world r.result c.read.ensures.watches.looks c.requests_of.ensures.watches.looks.told.told
     (λ t. stops_unopened _ step.Requests r.result _ r.ensures.1 (λ o. o) (c.in_err-requests.ensures.bytes t))
 
 pub returns-clause-bytes : goal.returns-clause-bytes
-returns-clause-bytes g c = 
+returns-clause-bytes g c =
     run_after g.W.Disk.meaning _ c.args.world.now c.requests_of.new.world c.serve.new.world c.serve.result
     (looks_joined _ _ _ _ c.read.ensures.watches.looks c.requests_of.ensures.watches.looks) c.serve.ensures.passes.told.told c.serve.ensures.bytes
