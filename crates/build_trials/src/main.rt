@@ -3,9 +3,9 @@
 //! A line `== NAME` begins a trial with a tree of its own. Lines that begin with `-- ` are its steps. `act` and `fail` say what a
 //! command makes, and `orders` which running job ends at each wait: they hold for the whole trial. The others are taken in order:
 //! `file` puts a file whose content follows on the line or on the lines below, `gone` removes one, `large` puts a file of so
-//! many bytes, `cut`, `mark` and `bank` put other bytes into the signature file, `refused` is the number of a write on standard output that the next
-//! run is refused, `refused_errors` of one on standard error, `run` is the command with these words, and `show` writes a file. `copy` builds a copy of this content alone,
-//! without scripts and without the trial's tree.
+//! many bytes, `cut`, `mark` and `bank` put other bytes into the signature file, `refused` is the number of a write on standard
+//! output that the next run is refused, `refused_errors` of one on standard error, `run` is the command with these words, and
+//! `show` writes a file. `copy` builds a copy of this content alone, without scripts and without the trial's tree.
 //! `failures` builds once with each failure of the outside, and once more without it. `stops` stops a build after each
 //! number of its calls, in each way that a stop may turn out, and builds on. `cuts` builds with the signature file cut to each
 //! length. `turns` builds over and over, and `banks` says how large the signature file's halves are, and
