@@ -3,7 +3,7 @@ ghost use Rattle.std.specs.Prelude.{◌≡◌, [], true, false, IfOk, IfSome, If
 ghost use Rattle.world_api.specs.Causes.{Later};
 ghost use Rattle.world_api.specs.Meaning.{Told};
 ghost use Rattle.world_api.specs.Looks.{Looks};
-ghost use Rattle.sign_store.specs.Stores.{IsKept, is_live};
+ghost use Rattle.sign_store.specs.Stores.{IsKept, is_live, map_of};
 ghost use Rattle.task_plan.specs.Cycles.{HasNoCycle};
 ghost use Rattle.build_files.specs.Causes.{HasLookCause, IsQuiet};
 ghost use Rattle.build_run.specs.Along.{is_faulted, KeepsEnds};
