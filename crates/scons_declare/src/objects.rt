@@ -1,5 +1,12 @@
 //! Objects, and what is linked of them.
-ghost use Rattle.std.specs.Prelude.{◌<◌, length, IfOk};
+ghost use Rattle.std.specs.Prelude.{◌≡◌, ◌≢◌, ◌<◌, [], ◌∷◌, length, None, Some, Ok, Err, IfOk, IfErr, OnOk, option_copied};
+ghost use Rattle.std.specs.Str.{bytes_eq};
+ghost use Rattle.indexmap.specs.IndexSet.{insert_all};
+ghost use Rattle.scons_decls.specs.Steps.{each};
+ghost use Rattle.scons_decls.specs.State.{declared_of};
+ghost use Rattle.scons_declare.specs.Calls.{nodes_in};
+ghost use Rattle.scons_declare.specs.Affixes as naming;
+ghost use Rattle.scons_declare.specs.Linking as spec;
 
 use crate::site::{Site, as_answer, declare_rule, one_path, only_path};
 use crate::suffixes::{Affixes, affixed, affixes_of, target_of};
@@ -7,7 +14,8 @@ use env_subst::Mode;
 use indexmap::IndexSet;
 use scons_base::{PathText, Paths, Text};
 use scons_decls::{
-    Answer, Declarations, Given, NameFault, Recipe, bad_argument, file_of, language_of, listed,
+    Answer, Declarations, Given, NameFault, Recipe, bad_argument, expanded, file_of, language_of,
+    listed,
 };
 
 /// `Object(source)` and `Object(target, source)`.
@@ -16,13 +24,18 @@ pub(crate) fn objects(
     site: Site,
     targets: Option<&[Given]>,
     sources: &[Given],
-) -> Result<Answer, NameFault> {
+) -> Result<Answer, NameFault>
+    ensures ok { IfOk result (λ a. spec.objects (declared_of state.old) site (nodes_in targets.entry) sources.now
+        ≡ Ok (a, declared_of state.new)) }
+    ensures fault { IfErr result (λ e. e ≢ NameFault.Memory
+        → spec.objects (declared_of state.old) site (nodes_in targets.entry) sources.now ≡ Err e) }
+{
     let object = affixes_of(state, site.env, "", "$OBJSUFFIX")?;
     match (targets, sources) {
         (None, sources) => each_object(state, site, &object, sources),
         (Some([target]), [source]) => {
             let source = compiled_source(state, site, source)?;
-            let target = named_target(state, site, target, &object, "Object")?;
+            let target = named_path(state, site, target, &object, "Object")?;
             declare_object(state, site, &target, &source)?;
             as_answer(state, &[target])
         }
@@ -35,7 +48,14 @@ fn each_object(
     site: Site,
     object: &Affixes,
     sources: &[Given],
-) -> Result<Answer, NameFault> {
+) -> Result<Answer, NameFault>
+    ensures ok { IfOk result (λ a. spec.answers_found (spec.found_in_turn (spec.each_object site object.now)
+        sources.now (declared_of state.old))
+        ≡ Ok (a, declared_of state.new)) }
+    ensures fault { IfErr result (λ e. e ≢ NameFault.Memory
+        → spec.answers_found (spec.found_in_turn (spec.each_object site object.now) sources.now (declared_of
+        state.old)) ≡ Err e) }
+{
     let mut targets = Paths::new(Vec::new(state.alloc));
     for source in sources {
         let source = compiled_source(state, site, source)?;
@@ -45,43 +65,37 @@ fn each_object(
 }
 
 /// A source that compilers take. A text without a suffix names a C source.
-fn compiled_source(
-    state: &Declarations,
-    site: Site,
-    source: &Given,
-) -> Result<PathText, NameFault> {
+fn compiled_source(state: &Declarations, site: Site, source: &Given) -> Result<PathText, NameFault>
+    ensures ok { IfOk result (λ a. spec.compiled_source (declared_of state.now) site source.now ≡ Ok a) }
+    ensures fault { IfErr result (λ e. e ≢ NameFault.Memory
+        → spec.compiled_source (declared_of state.now) site source.now ≡ Err e) }
+{
     let c = affixes_of(state, site.env, "", ".c")?;
-    let path = named_source(state, site, source, &c, "Object")?;
+    let path = named_path(state, site, source, &c, "Object")?;
     match language_of(&path) {
         Some(_) => Ok(path),
         None => Err(NameFault::BadSuffix(path)),
     }
 }
 
-/// A source: one that is given by a text gets a suffix where its name has none.
-pub(crate) fn named_source(
+/// The path of a target, or of a source: one that is given by a text gets a prefix and a suffix, where its name has none.
+pub(crate) fn named_path(
     state: &Declarations,
     site: Site,
-    source: &Given,
+    given: &Given,
     affixes: &Affixes,
     name: &str,
-) -> Result<PathText, NameFault> {
-    let path = file_of(state, site.env, source, name)?;
-    match source {
+) -> Result<PathText, NameFault>
+    ensures ok { IfOk result (λ a. naming.named (declared_of state.now) site.env.0 name.now affixes.now given.now
+        ≡ Ok a) }
+    ensures fault { IfErr result (λ e. e ≢ NameFault.Memory
+        → naming.named (declared_of state.now) site.env.0 name.now affixes.now given.now ≡ Err e) }
+{
+    let path = file_of(state, site.env, given, name)?;
+    match given {
         Given::Text(_) if !affixes.are_empty() => affixed(state, &path, affixes),
         _ => Ok(path),
     }
-}
-
-/// A target: one that is given by a text gets a prefix and a suffix.
-pub(crate) fn named_target(
-    state: &Declarations,
-    site: Site,
-    target: &Given,
-    affixes: &Affixes,
-    name: &str,
-) -> Result<PathText, NameFault> {
-    named_source(state, site, target, affixes, name)
 }
 
 /// The object of a source, which is declared.
@@ -90,7 +104,12 @@ fn object_of(
     site: Site,
     object: &Affixes,
     source: &PathText,
-) -> Result<PathText, NameFault> {
+) -> Result<PathText, NameFault>
+    ensures ok { IfOk result (λ a. spec.object_of (declared_of state.old) site object.now source.now
+        ≡ Ok (a, declared_of state.new)) }
+    ensures fault { IfErr result (λ e. e ≢ NameFault.Memory
+        → spec.object_of (declared_of state.old) site object.now source.now ≡ Err e) }
+{
     let target = target_of(state, source, "", object)?;
     declare_object(state, site, &target, source)?;
     Ok(target)
@@ -101,7 +120,11 @@ fn declare_object(
     site: Site,
     target: &PathText,
     source: &PathText,
-) -> Result<(), NameFault> {
+) -> Result<(), NameFault>
+    ensures ok { OnOk result (declared_of state.new ≡ spec.with_object site target.now source.now (declared_of
+        state.old)) }
+    ensures fault { IfErr result (λ e. e ≡ NameFault.Memory) }
+{
     let targets = one_path(state, target)?;
     let sources = one_path(state, source)?;
     declare_rule(state, site, Recipe::Object, targets, sources)
@@ -115,15 +138,19 @@ struct Linking {
     lib_suffix: Text,
 }
 
-fn linking_of(state: &Declarations, site: Site, recipe: &Recipe) -> Result<Linking, NameFault> {
-    let target = match recipe {
-        Recipe::StaticLibrary => affixes_of(state, site.env, "$LIBPREFIX", "$LIBSUFFIX")?,
-        _ => affixes_of(state, site.env, "", "$PROGSUFFIX")?,
-    };
+fn linking_of(
+    state: &Declarations,
+    site: Site,
+    prefix: &str,
+    suffix: &str,
+) -> Result<Linking, NameFault>
+    ensures ok { IfOk result (λ a. spec.linking_of (declared_of state.now) site prefix.now suffix.now ≡ Ok a) }
+    ensures fault { IfErr result (λ e. e ≢ NameFault.Memory
+        → spec.linking_of (declared_of state.now) site prefix.now suffix.now ≡ Err e) }
+{
+    let target = affixes_of(state, site.env, prefix, suffix)?;
     let object = affixes_of(state, site.env, "", "$OBJSUFFIX")?;
-    let lib_suffix = state
-        .envs
-        .subst(site.env, "$LIBSUFFIX", &state.locals, Mode::Text)?;
+    let lib_suffix = expanded(state, site.env, "$LIBSUFFIX", Mode::Text)?;
     Ok(Linking {
         target,
         object,
@@ -131,16 +158,23 @@ fn linking_of(state: &Declarations, site: Site, recipe: &Recipe) -> Result<Linki
     })
 }
 
-/// `Program` and `StaticLibrary`: C and C++ sources become objects first.
+/// `Program` and `StaticLibrary`: C and C++ sources become objects first. A prefix and a suffix go round the names of targets.
 pub(crate) fn linked(
     state: &mut Declarations,
     site: Site,
     recipe: Recipe,
     name: &str,
+    prefix: &str,
+    suffix: &str,
     targets: Option<&[Given]>,
     sources: &[Given],
-) -> Result<Answer, NameFault> {
-    let linking = linking_of(state, site, &recipe)?;
+) -> Result<Answer, NameFault>
+    ensures ok { IfOk result (λ a. spec.linked (declared_of state.old) site recipe name.now prefix.now suffix.now
+        (nodes_in targets.entry) sources.now ≡ Ok (a, declared_of state.new)) }
+    ensures fault { IfErr result (λ e. e ≢ NameFault.Memory → spec.linked (declared_of state.old) site recipe
+        name.now prefix.now suffix.now (nodes_in targets.entry) sources.now ≡ Err e) }
+{
+    let linking = linking_of(state, site, prefix, suffix)?;
     let targets = linked_targets(state, site, &linking, name, targets, sources)?;
     let sources = linked_sources(state, site, &linking, name, sources)?;
     let answer = as_answer(state, targets.as_slice())?;
@@ -156,20 +190,26 @@ fn linked_targets(
     targets: Option<&[Given]>,
     sources: &[Given],
 ) -> Result<Paths, NameFault>
-    ensures { IfOk result (λ p. 0 < length p) }
+    ensures ok { IfOk result (λ p. spec.linked_targets (declared_of state.now) site linking.now name.now (nodes_in
+        targets.entry) sources.now
+        ≡ Ok p) }
+    ensures fault { IfErr result (λ e. e ≢ NameFault.Memory
+        → spec.linked_targets (declared_of state.now) site linking.now name.now (nodes_in targets.entry)
+        sources.now ≡ Err e) }
+    ensures some { IfOk result (λ p. 0 < length p) }
 {
     let Some(targets) = targets else {
         let Some(first) = sources.first() else {
             return Err(NameFault::NoSource);
         };
-        let source = named_source(state, site, first, &linking.object, name)?;
+        let source = named_path(state, site, first, &linking.object, name)?;
         let target = target_of(state, &source, "", &linking.target)?;
         return one_path(state, &target);
     };
     distinct_targets(state, site, &linking.target, name, targets)
 }
 
-/// Targets, each once.
+/// Targets with a prefix and a suffix, each once.
 pub(crate) fn distinct_targets(
     state: &Declarations,
     site: Site,
@@ -177,19 +217,64 @@ pub(crate) fn distinct_targets(
     name: &str,
     targets: &[Given],
 ) -> Result<Paths, NameFault>
-    ensures { IfOk result (λ p. 0 < length p) }
+    ensures ok { IfOk result (λ p. naming.targets_of (declared_of state.now) site.env.0 name.now affixes.now
+        targets.now
+        ≡ Ok p) }
+    ensures fault { IfErr result (λ e. e ≢ NameFault.Memory
+        → naming.targets_of (declared_of state.now) site.env.0 name.now affixes.now targets.now ≡ Err e) }
+    ensures some { IfOk result (λ p. 0 < length p) }
 {
-    if let [target] = targets {
-        return only_path(state, named_target(state, site, target, affixes, name)?);
+    let paths = named_all(state, site, affixes, name, targets)?;
+    each_once(state, name, paths)
+}
+
+/// Targets, or sources, in order: those that are given by texts get a prefix and a suffix.
+pub(crate) fn named_all(
+    state: &Declarations,
+    site: Site,
+    affixes: &Affixes,
+    name: &str,
+    given: &[Given],
+) -> Result<Paths, NameFault>
+    ensures ok { IfOk result (λ a. each (naming.named (declared_of state.now) site.env.0 name.now affixes.now)
+        given.now
+        ≡ Ok a) }
+    ensures fault { IfErr result (λ e. e ≢ NameFault.Memory
+        → each (naming.named (declared_of state.now) site.env.0 name.now affixes.now) given.now ≡ Err e) }
+{
+    let mut paths = Paths::new(Vec::new(state.alloc));
+    for one in given {
+        paths.push(named_path(state, site, one, affixes, name)?)?;
     }
-    let mut paths = IndexSet::new(state.alloc);
-    for target in targets {
-        paths.insert(named_target(state, site, target, affixes, name)?)?;
+    Ok(paths)
+}
+
+/// The targets of the call `name`, each once. There has to be one.
+pub(crate) fn each_once(state: &Declarations, name: &str, paths: Paths) -> Result<Paths, NameFault>
+    ensures ok { IfOk result (λ p. naming.each_once name.now paths ≡ Ok p) }
+    ensures fault { IfErr result (λ e. e ≢ NameFault.Memory → naming.each_once name.now paths ≡ Err e) }
+    ensures some { IfOk result (λ p. 0 < length p) }
+{
+    match paths.as_slice() {
+        [] => Err(bad_argument(state, name)),
+        [_] => Ok(paths),
+        several => distinct(state, several),
     }
-    if paths.is_empty() {
-        return Err(bad_argument(state, name));
+}
+
+/// Several paths, each once, at its first place.
+#[tactic(auto, using(crate::proofs::Once::some_once))]
+fn distinct(state: &Declarations, paths: &[PathText]) -> Result<Paths, NameFault>
+    requires { 0 < length paths.now }
+    ensures ok { IfOk result (λ p. p ≡ insert_all bytes_eq [] paths.now) }
+    ensures fault { IfErr result (λ e. e ≡ NameFault.Memory) }
+    ensures some { IfOk result (λ p. 0 < length p) }
+{
+    let mut once = IndexSet::new(state.alloc);
+    for path in paths {
+        once.insert(path.copy()?)?;
     }
-    listed(state, paths.as_slice())
+    listed(state, once.as_slice())
 }
 
 fn linked_sources(
@@ -198,10 +283,17 @@ fn linked_sources(
     linking: &Linking,
     name: &str,
     sources: &[Given],
-) -> Result<Paths, NameFault> {
+) -> Result<Paths, NameFault>
+    ensures ok { IfOk result (λ a. spec.found_in_turn (spec.linked_source site linking.now name.now) sources.now
+        (declared_of state.old)
+        ≡ Ok (a, declared_of state.new)) }
+    ensures fault { IfErr result (λ e. e ≢ NameFault.Memory
+        → spec.found_in_turn (spec.linked_source site linking.now name.now) sources.now (declared_of state.old) ≡
+        Err e) }
+{
     let mut paths = Paths::new(Vec::new(state.alloc));
     for source in sources {
-        let path = named_source(state, site, source, &linking.object, name)?;
+        let path = named_path(state, site, source, &linking.object, name)?;
         paths.push(linked_source(state, site, linking, path)?)?;
     }
     Ok(paths)
@@ -213,7 +305,12 @@ fn linked_source(
     site: Site,
     linking: &Linking,
     source: PathText,
-) -> Result<PathText, NameFault> {
+) -> Result<PathText, NameFault>
+    ensures ok { IfOk result (λ a. spec.linked_path site linking.now source (declared_of state.old)
+        ≡ Ok (a, declared_of state.new)) }
+    ensures fault { IfErr result (λ e. e ≢ NameFault.Memory
+        → spec.linked_path site linking.now source (declared_of state.old) ≡ Err e) }
+{
     if language_of(&source).is_some() {
         return object_of(state, site, &linking.object, &source);
     }
@@ -223,7 +320,9 @@ fn linked_source(
     Err(NameFault::BadSuffix(source))
 }
 
-fn is_linkable(linking: &Linking, source: &PathText) -> bool {
+fn is_linkable(linking: &Linking, source: &PathText) -> bool
+    ensures { result ≡ spec.is_linkable linking.now source.now }
+{
     let suffix = source.suffix();
     let name = source.name();
     suffix == ".o"
@@ -232,6 +331,8 @@ fn is_linkable(linking: &Linking, source: &PathText) -> bool {
         || ends_with(name, linking.lib_suffix.as_str())
 }
 
-fn ends_with(name: &str, suffix: &str) -> bool {
-    !suffix.is_empty() && name.ends_with(suffix)
+fn ends_with(name: &str, suffix: &str) -> bool
+    ensures { result ≡ spec.has_suffix suffix.now name.now }
+{
+    !suffix.is_empty() && name.as_bytes().ends_with(suffix.as_bytes())
 }

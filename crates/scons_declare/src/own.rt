@@ -1,9 +1,13 @@
 //! Builders of a script's own, and Command.
-ghost use Rattle.std.specs.Prelude.{◌<◌, length, IfOk};
+ghost use Rattle.std.specs.Prelude.{◌≡◌, ◌≢◌, ◌<◌, [], ◌∷◌, ◌++◌, length, None, Some, Ok, Err, IfOk, IfErr, OnOk, option_copied};
+ghost use Rattle.scons_decls.specs.Steps.{each};
+ghost use Rattle.scons_decls.specs.State.{declared_of};
+ghost use Rattle.scons_declare.specs.Calls.{nodes_in};
+ghost use Rattle.scons_declare.specs.Owns as spec;
 
-use crate::objects::{distinct_targets, named_source};
+use crate::objects::{distinct_targets, each_once, named_all};
 use crate::site::{Site, as_answer, declare_rule, one_path};
-use crate::suffixes::{Affixes, affixes_of, dotted, target_of};
+use crate::suffixes::{Affixes, affixes_of, dotted, plain, target_of};
 use scons_base::{PathText, Paths, Text, Texts};
 use scons_decls::{
     Answer, Builder, Declarations, Given, NameFault, Recipe, bad_argument, files_of,
@@ -16,11 +20,15 @@ struct Naming {
     source: Affixes,
 }
 
-fn naming_of(state: &Declarations, site: Site, builder: u32) -> Result<Naming, NameFault> {
+fn naming_of(state: &Declarations, site: Site, builder: u32) -> Result<Naming, NameFault>
+    ensures ok { IfOk result (λ a. spec.naming_of (declared_of state.now) site builder ≡ Ok a) }
+    ensures fault { IfErr result (λ e. e ≢ NameFault.Memory
+        → spec.naming_of (declared_of state.now) site builder ≡ Err e) }
+{
     let Some(builder) = state.builders.get(builder as usize) else {
         return Ok(Naming {
-            target: affixes_of(state, site.env, "", "")?,
-            source: affixes_of(state, site.env, "", "")?,
+            target: plain(state)?,
+            source: plain(state)?,
         });
     };
     let suffix = dotted(state, &builder.suffix)?;
@@ -39,30 +47,22 @@ pub(crate) fn own_rule(
     name: &str,
     targets: Option<&[Given]>,
     sources: &[Given],
-) -> Result<Answer, NameFault> {
+) -> Result<Answer, NameFault>
+    ensures ok { IfOk result (λ a. spec.own_rule (declared_of state.old) site builder name.now (nodes_in
+        targets.entry) sources.now
+        ≡ Ok (a, declared_of state.new)) }
+    ensures fault { IfErr result (λ e. e ≢ NameFault.Memory
+        → spec.own_rule (declared_of state.old) site builder name.now (nodes_in targets.entry) sources.now ≡ Err e) }
+{
     let naming = naming_of(state, site, builder)?;
     if targets.is_none() && sources.is_empty() {
         return as_answer(state, &[]);
     }
-    let sources = own_sources(state, site, &naming.source, name, sources)?;
+    let sources = named_all(state, site, &naming.source, name, sources)?;
     let targets = own_targets(state, site, &naming, name, targets, sources.as_slice())?;
     let answer = as_answer(state, targets.as_slice())?;
     declare_rule(state, site, Recipe::Own(builder), targets, sources)?;
     Ok(answer)
-}
-
-fn own_sources(
-    state: &Declarations,
-    site: Site,
-    affixes: &Affixes,
-    name: &str,
-    sources: &[Given],
-) -> Result<Paths, NameFault> {
-    let mut paths = Paths::new(Vec::new(state.alloc));
-    for source in sources {
-        paths.push(named_source(state, site, source, affixes, name)?)?;
-    }
-    Ok(paths)
 }
 
 fn own_targets(
@@ -73,7 +73,13 @@ fn own_targets(
     targets: Option<&[Given]>,
     sources: &[PathText],
 ) -> Result<Paths, NameFault>
-    ensures { IfOk result (λ p. 0 < length p) }
+    ensures ok { IfOk result (λ p. spec.own_targets (declared_of state.now) site naming.now name.now (nodes_in
+        targets.entry) sources.now
+        ≡ Ok p) }
+    ensures fault { IfErr result (λ e. e ≢ NameFault.Memory
+        → spec.own_targets (declared_of state.now) site naming.now name.now (nodes_in targets.entry) sources.now ≡
+        Err e) }
+    ensures some { IfOk result (λ p. 0 < length p) }
 {
     match targets {
         Some(targets) => distinct_targets(state, site, &naming.target, name, targets),
@@ -86,7 +92,9 @@ fn default_target(
     naming: &Naming,
     sources: &[PathText],
 ) -> Result<Paths, NameFault>
-    ensures { IfOk result (λ p. 0 < length p) }
+    ensures ok { IfOk result (λ p. spec.default_target naming.now sources.now ≡ Ok p) }
+    ensures fault { IfErr result (λ e. e ≢ NameFault.Memory → spec.default_target naming.now sources.now ≡ Err e) }
+    ensures some { IfOk result (λ p. 0 < length p) }
 {
     let Some(source) = sources.first() else {
         return Err(NameFault::NoSource);
@@ -103,10 +111,15 @@ pub(crate) fn command(
     targets: &[Given],
     sources: &[Given],
     action: &Texts,
-) -> Result<Answer, NameFault> {
+) -> Result<Answer, NameFault>
+    ensures ok { IfOk result (λ a. spec.command (declared_of state.old) site targets.now sources.now action.now
+        ≡ Ok (a, declared_of state.new)) }
+    ensures fault { IfErr result (λ e. e ≢ NameFault.Memory
+        → spec.command (declared_of state.old) site targets.now sources.now action.now ≡ Err e) }
+{
     let lines = lines_of(state, action.as_slice())?;
-    let plain = affixes_of(state, site.env, "", "")?;
-    let targets = distinct_targets(state, site, &plain, "Command", targets)?;
+    let targets = files_of(state, site.env, targets, "Command")?;
+    let targets = each_once(state, "Command", targets)?;
     let sources = files_of(state, site.env, sources, "Command")?;
     let answer = as_answer(state, targets.as_slice())?;
     declare_rule(state, site, Recipe::Command(lines), targets, sources)?;
@@ -114,10 +127,12 @@ pub(crate) fn command(
 }
 
 /// `Builder(..)`: the number of the new builder.
-pub(crate) fn new_builder(
-    state: &mut Declarations,
-    builder: &Builder,
-) -> Result<Answer, NameFault> {
+pub(crate) fn new_builder(state: &mut Declarations, builder: &Builder) -> Result<Answer, NameFault>
+    ensures ok { IfOk result (λ a. spec.new_builder (declared_of state.old) builder.now
+        ≡ Ok (a, declared_of state.new)) }
+    ensures fault { IfErr result (λ e. e ≢ NameFault.Memory
+        → spec.new_builder (declared_of state.old) builder.now ≡ Err e) }
+{
     let action = lines_of(state, builder.action.as_slice())?;
     let number = state.builders.len();
     if number >= u32::MAX as usize {
@@ -134,7 +149,10 @@ pub(crate) fn new_builder(
 }
 
 /// The lines of an action: each text is cut at line feeds.
-fn lines_of(state: &Declarations, action: &[Text]) -> Result<Texts, NameFault> {
+fn lines_of(state: &Declarations, action: &[Text]) -> Result<Texts, NameFault>
+    ensures ok { IfOk result (λ a. spec.lines_of action.now ≡ Ok a) }
+    ensures fault { IfErr result (λ e. e ≢ NameFault.Memory → spec.lines_of action.now ≡ Err e) }
+{
     let mut lines = Texts::new(Vec::new(state.alloc));
     for text in action {
         push_lines(state, &mut lines, text.as_str())?;
@@ -145,12 +163,22 @@ fn lines_of(state: &Declarations, action: &[Text]) -> Result<Texts, NameFault> {
     Ok(lines)
 }
 
-fn push_lines(state: &Declarations, lines: &mut Texts, text: &str) -> Result<(), NameFault> {
+fn push_lines(state: &Declarations, lines: &mut Texts, text: &str) -> Result<(), NameFault>
+    ensures ok { OnOk result (lines.new ≡ lines.old ++ spec.lines_in text.now) }
+    ensures fault { IfErr result (λ e. e ≡ NameFault.Memory) }
+{
     let mut rest = text;
-    'lines: while let Some((line, after)) = rest.split_once('\n') {
-        lines.push(Text::of(state.alloc, line)?)?;
+    'parts: while let Some((line, after)) = rest.split_once('\n') {
+        push_line(state, lines, line)?;
         rest = after;
     }
-    lines.push(Text::of(state.alloc, rest)?)?;
+    push_line(state, lines, rest)
+}
+
+fn push_line(state: &Declarations, lines: &mut Texts, line: &str) -> Result<(), NameFault>
+    ensures ok { OnOk result (lines.new ≡ lines.old ++ line.now ∷ []) }
+    ensures fault { IfErr result (λ e. e ≡ NameFault.Memory) }
+{
+    lines.push(Text::of(state.alloc, line)?)?;
     Ok(())
 }

@@ -1,9 +1,13 @@
 //! Textfile and Substfile: rules that write.
-ghost use Rattle.std.specs.Prelude.{◌<◌, length, IfOk};
+ghost use Rattle.std.specs.Prelude.{◌≡◌, ◌≢◌, ◌<◌, [], ◌∷◌, length, None, Some, Ok, Err, IfOk, IfErr, OnOk, option_copied};
+ghost use Rattle.scons_decls.specs.Steps.{each};
+ghost use Rattle.scons_decls.specs.State.{declared_of};
+ghost use Rattle.scons_declare.specs.Calls.{nodes_in};
+ghost use Rattle.scons_declare.specs.Writes as spec;
 
-use crate::objects::named_target;
+use crate::objects::named_path;
 use crate::site::{Site, as_answer, declare_rule, only_path};
-use crate::suffixes::{affixes_of, target_of};
+use crate::suffixes::{affixes_of, plain, target_of};
 use scons_base::{Listing, Memory, PathText, Paths, Text, Texts};
 use scons_decls::{
     Answer, Declarations, Given, NameFault, Pairs, Recipe, bad_argument, file_of, files_of,
@@ -19,14 +23,19 @@ pub(crate) fn textfile(
     targets: &[Given],
     texts: &Texts,
     pairs: &[(Text, Text)],
-) -> Result<Answer, NameFault> {
+) -> Result<Answer, NameFault>
+    ensures ok { IfOk result (λ a. spec.textfile (declared_of state.old) site targets.now texts.now pairs.now
+        ≡ Ok (a, declared_of state.new)) }
+    ensures fault { IfErr result (λ e. e ≢ NameFault.Memory
+        → spec.textfile (declared_of state.old) site targets.now texts.now pairs.now ≡ Err e) }
+{
     let [target] = targets else {
         return Err(bad_argument(state, "Textfile"));
     };
     let affixes = affixes_of(state, site.env, "", ".txt")?;
     let targets = only_path(
         state,
-        named_target(state, site, target, &affixes, "Textfile")?,
+        named_path(state, site, target, &affixes, "Textfile")?,
     )?;
     let answer = as_answer(state, targets.as_slice())?;
     let recipe = Recipe::Textfile(texts.copy()?, copies_of(state, pairs)?);
@@ -42,7 +51,13 @@ pub(crate) fn substfile(
     targets: Option<&[Given]>,
     sources: &[Given],
     pairs: &[(Text, Text)],
-) -> Result<Answer, NameFault> {
+) -> Result<Answer, NameFault>
+    ensures ok { IfOk result (λ a. spec.substfile (declared_of state.old) site (nodes_in targets.entry) sources.now
+        pairs.now
+        ≡ Ok (a, declared_of state.new)) }
+    ensures fault { IfErr result (λ e. e ≢ NameFault.Memory
+        → spec.substfile (declared_of state.old) site (nodes_in targets.entry) sources.now pairs.now ≡ Err e) }
+{
     let sources = files_of(state, site.env, sources, "Substfile")?;
     let targets = substituted(state, site, targets, sources.as_slice())?;
     let answer = as_answer(state, targets.as_slice())?;
@@ -58,24 +73,33 @@ fn substituted(
     targets: Option<&[Given]>,
     sources: &[PathText],
 ) -> Result<Paths, NameFault>
-    ensures { IfOk result (λ p. 0 < length p) }
+    ensures ok { IfOk result (λ p. spec.substituted (declared_of state.now) site (nodes_in targets.entry) sources.now
+        ≡ Ok p) }
+    ensures fault { IfErr result (λ e. e ≢ NameFault.Memory
+        → spec.substituted (declared_of state.now) site (nodes_in targets.entry) sources.now ≡ Err e) }
+    ensures some { IfOk result (λ p. 0 < length p) }
 {
     match (targets, sources) {
         (Some([target]), _) => only_path(state, file_of(state, site.env, target, "Substfile")?),
-        (None, [source]) => only_path(state, bare(state, site, source)?),
+        (None, [source]) => only_path(state, bare(state, source)?),
         _ => Err(bad_argument(state, "Substfile")),
     }
 }
 
-fn bare(state: &Declarations, site: Site, source: &PathText) -> Result<PathText, NameFault> {
+fn bare(state: &Declarations, source: &PathText) -> Result<PathText, NameFault>
+    ensures ok { IfOk result (λ p. spec.bare source.now ≡ Ok (p ∷ [])) }
+    ensures fault { IfErr result (λ e. e ≢ NameFault.Memory → spec.bare source.now ≡ Err e) }
+{
     if source.suffix() != SOURCE_SUFFIX {
         return Err(NameFault::BadSuffix(source.copy()?));
     }
-    let plain = affixes_of(state, site.env, "", "")?;
+    let plain = plain(state)?;
     target_of(state, source, SOURCE_SUFFIX, &plain)
 }
 
-fn copies_of(state: &Declarations, pairs: &[(Text, Text)]) -> Result<Pairs, Memory> {
+fn copies_of(state: &Declarations, pairs: &[(Text, Text)]) -> Result<Pairs, Memory>
+    ensures { IfOk result (λ p. p ≡ pairs.now) }
+{
     let mut copies = Listing::empty(state.alloc);
     for (key, value) in pairs {
         copies.push((key.copy()?, value.copy()?))?;

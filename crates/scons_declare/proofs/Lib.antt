@@ -1,0 +1,5 @@
+pub mod Finding
+pub mod Lengths
+pub mod Lines
+pub mod Ends
+pub mod Once
