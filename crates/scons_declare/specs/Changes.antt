@@ -5,7 +5,6 @@ use Rattle.world_api.specs.declared.decider.Decider.{Decider}
 use Rattle.world_api.specs.declared.decider.Decider.TheVariants as decider
 use Rattle.env_vars.specs.declared.value.EnvValue.{EnvValue}
 use Rattle.env_vars.specs.Vars.{Var}
-use Rattle.env_vars.specs.Envs.{Scope}
 use Rattle.env_pieces.specs.declared.form.Mode.{Mode}
 use Rattle.scons_decls.specs.declared.answer.Answer.{Answer}
 use Rattle.scons_decls.specs.declared.answer.Answer.TheVariants as answer
@@ -17,21 +16,21 @@ use Rattle.scons_decls.specs.declared.given.Variables.{Variables}
 use Rattle.scons_decls.specs.Steps.{and_then, in_turn}
 use Rattle.scons_decls.specs.Profile.{may_set, may_read}
 use Rattle.scons_decls.specs.References.{value_allowed, vars_allowed}
-use Rattle.scons_decls.specs.Environs.{Environs, held, with_new, with_clone, with_builder, with_decider, with_scopes, with_value, with_default, variable_of, value_given, expanded}
+use Rattle.scons_decls.specs.Environs.{Environs, held, with_new, with_clone, with_builder, with_decider, with_value, with_default, with_behind, with_in_front, with_missing, variable_of, value_given, expanded}
 use Rattle.scons_decls.specs.State.{Declared}
 use Rattle.scons_declare.specs.Calls.{Outcome, silent, with_envs}
 
 -- the environments after a value was added, or that the kinds don't fit
-abbrev pub or_kinds : Environs → List ℕ → Option (List Scope) → Result Environs NameFault
-or_kinds e name None = Err (Kinds name)
-or_kinds e name (Some scopes) = Ok (with_scopes e scopes)
+abbrev pub or_kinds : List ℕ → Option Environs → Result Environs NameFault
+or_kinds name None = Err (Kinds name)
+or_kinds name (Some e) = Ok e
 
 -- `Append` and its kin put a value behind or in front of what the variable has, `Replace` in its place, `SetDefault` where it
 -- has none
 abbrev pub changed : Change → Environs → ℕ → List ℕ → EnvValue → Result Environs NameFault
-changed Append e env name value = or_kinds e name (Some e.scopes)
-changed Prepend e env name value = or_kinds e name (Some e.scopes)
-changed AppendUnique e env name value = or_kinds e name (Some e.scopes)
+changed Append e env name value = or_kinds name (with_behind e env name value)
+changed Prepend e env name value = or_kinds name (with_in_front e env name value)
+changed AppendUnique e env name value = or_kinds name (with_missing e env name value)
 changed Replace e env name value = Ok (with_value e env name value)
 changed SetDefault e env name value = Ok (with_default e env name value)
 
