@@ -23,6 +23,7 @@ mod requests;
 mod signature;
 mod signatures;
 mod texts;
+mod thing;
 mod values;
 mod variables;
 mod words;
@@ -31,10 +32,11 @@ pub use exports::Exports;
 pub use fault::CallFault;
 pub use flattening::flattened;
 pub use left_out::{is_left_out, is_left_out_of_environments};
-pub use name::Name;
-pub use objects::{Objects, Thing};
+pub use name::{Name, NameId};
+pub use objects::Objects;
 pub use request::{Request, ScriptFiles, Shared, Valued};
 pub use requests::{own_request_of, request_of};
+pub use thing::Thing;
 pub use values::{
     dict_value, given_value, list_value, nodes_value, text_value, texts_value, tuple_value,
     variable_value,

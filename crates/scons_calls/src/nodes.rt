@@ -1,7 +1,8 @@
 //! Arguments that stand for nodes.
 use crate::fault::CallFault;
 use crate::flattening::flattened;
-use crate::objects::{Objects, Thing};
+use crate::objects::Objects;
+use crate::thing::Thing;
 use py_heap::{Heap, Value};
 use scons_base::{Listing, Text};
 use scons_decls::{Given, Nodes};

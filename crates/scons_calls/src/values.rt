@@ -2,6 +2,7 @@
 ghost use Rattle.py_host.specs.Extends.{Extends};
 
 use crate::objects::Objects;
+use crate::thing::Thing;
 use env_vars::{EnvValue, Item};
 use py_heap::{Heap, HostId, Value, ValueFault};
 use scons_base::{PathText, Text};
@@ -53,15 +54,15 @@ pub fn given_value(
 {
     match given {
         Given::File(path) => {
-            let id = objects.file(path)?;
+            let id = objects.object(Thing::File(path.copy()?))?;
             shown(heap, id, path.as_str())
         }
         Given::Dir(path) => {
-            let id = objects.dir(path)?;
+            let id = objects.object(Thing::Dir(path.copy()?))?;
             shown(heap, id, path.as_str())
         }
         Given::Alias(name) => {
-            let id = objects.alias(name)?;
+            let id = objects.object(Thing::Alias(name.copy()?))?;
             shown(heap, id, name.as_str())
         }
         Given::Text(text) => text_value(heap, text.as_str()),

@@ -2,7 +2,8 @@
 use crate::fault::CallFault;
 use crate::flattening::flattened;
 use crate::nodes::place;
-use crate::objects::{Objects, Thing};
+use crate::objects::Objects;
+use crate::thing::Thing;
 use env_vars::{EnvValue, Item};
 use py_heap::{DictId, Heap, Value};
 use scons_base::{Listing, Text};

@@ -36,14 +36,14 @@ pub fn answer_value(
 {
     match answer {
         Answer::Nothing | Answer::Variable(None) => Ok(Value::Nil),
-        Answer::Env(env) => Ok(Value::Object(state.objects.env(env)?)),
+        Answer::Env(env) => Ok(Value::Object(state.objects.object(Thing::Env(env))?)),
         Answer::Targets(nodes) => match nodes.as_slice() {
             [node] if single => Ok(given_value(heap, &mut state.objects, node)?),
             nodes => Ok(nodes_value(heap, &mut state.objects, nodes)?),
         },
         Answer::Text(text) => Ok(text_value(heap, text.as_str())?),
         Answer::Variable(Some(value)) => Ok(variable_value(heap, &mut state.objects, &value)?),
-        Answer::Builder(number) => Ok(Value::Object(state.objects.add(Thing::Builder(number))?)),
+        Answer::Builder(number) => Ok(Value::Object(state.objects.object(Thing::Builder(number))?)),
     }
 }
 
