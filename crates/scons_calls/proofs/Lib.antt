@@ -1,2 +1,5 @@
+pub mod Flats
+pub mod Loops
 pub mod Numbering
 pub mod Standing
+pub mod Tails

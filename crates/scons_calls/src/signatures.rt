@@ -1,5 +1,8 @@
 //! The table of signatures, in the order of the manual's names.
-use crate::name::{Builds, Environs, Name, Says, Shares, Tells};
+ghost use Rattle.std.specs.Prelude.{◌≡◌};
+ghost use Rattle.scons_calls.specs.Signatures.{signature_of, of_builds, of_environs, of_says, of_tells, of_shares};
+
+use crate::name::{Environs, Name, Says, Shares, Tells};
 use crate::signature::{Kind, Others, Parameter, Signature, Takes};
 
 /// One argument that must stand.
@@ -46,79 +49,79 @@ macro_rules! any {
     };
 }
 
-const VARIABLES: &[Parameter] = &[];
+pub const VARIABLES: &[Parameter] = &[];
 
-const UNIQUE: &[Parameter] = &[option!("delete_existing", False)];
+pub const UNIQUE: &[Parameter] = &[option!("delete_existing", False)];
 
-const TEXT_AND_DEFAULT: &[Parameter] = &[one!("key", Text), option!("default", Any)];
+pub const TEXT_AND_DEFAULT: &[Parameter] = &[one!("key", Text), option!("default", Any)];
 
-const SUBST: &[Parameter] = &[one!("string", Text), option!("raw", Mode)];
+pub const SUBST: &[Parameter] = &[one!("string", Text), option!("raw", Mode)];
 
-const BUILT: &[Parameter] = &[option!("target", Nodes), option!("source", Nodes)];
+pub const BUILT: &[Parameter] = &[option!("target", Nodes), option!("source", Nodes)];
 
-const COMMAND: &[Parameter] = &[
+pub const COMMAND: &[Parameter] = &[
     one!("target", Nodes),
     one!("source", Nodes),
     one!("action", Lines),
 ];
 
-const TEXTFILE: &[Parameter] = &[
+pub const TEXTFILE: &[Parameter] = &[
     one!("target", Nodes),
     one!("source", Texts),
     option!("SUBST_DICT", Pairs),
 ];
 
-const SUBSTFILE: &[Parameter] = &[
+pub const SUBSTFILE: &[Parameter] = &[
     option!("target", Nodes),
     option!("source", Nodes),
     option!("SUBST_DICT", Pairs),
 ];
 
-const BUILDER: &[Parameter] = &[
+pub const BUILDER: &[Parameter] = &[
     one!("action", Lines),
     option!("suffix", Text),
     option!("src_suffix", Text),
     option!("prefix", Text),
 ];
 
-const INSTALL: &[Parameter] = &[one!("dir", Nodes), one!("source", Nodes)];
+pub const INSTALL: &[Parameter] = &[one!("dir", Nodes), one!("source", Nodes)];
 
-const INSTALL_AS: &[Parameter] = &[one!("target", Nodes), one!("source", Nodes)];
+pub const INSTALL_AS: &[Parameter] = &[one!("target", Nodes), one!("source", Nodes)];
 
-const SCRIPTS: &[Parameter] = &[
+pub const SCRIPTS: &[Parameter] = &[
     one!("files", Nodes),
     option!("exports", Exports),
     option!("variant_dir", Place),
     option!("duplicate", Flag),
 ];
 
-const EXPORT: &[Parameter] = &[any!("names", Exports)];
+pub const EXPORT: &[Parameter] = &[any!("names", Exports)];
 
-const NAMES: &[Parameter] = &[any!("names", Names)];
+pub const NAMES: &[Parameter] = &[any!("names", Names)];
 
-const VARIANT_DIR: &[Parameter] = &[
+pub const VARIANT_DIR: &[Parameter] = &[
     one!("variant_dir", Place),
     one!("src_dir", Place),
     option!("duplicate", Flag),
 ];
 
-const SAID: &[Parameter] = &[one!("target", Nodes), one!("dependency", Nodes)];
+pub const SAID: &[Parameter] = &[one!("target", Nodes), one!("dependency", Nodes)];
 
-const REQUIRED: &[Parameter] = &[one!("target", Nodes), one!("prerequisite", Nodes)];
+pub const REQUIRED: &[Parameter] = &[one!("target", Nodes), one!("prerequisite", Nodes)];
 
-const TARGETS: &[Parameter] = &[some!("targets", Nodes)];
+pub const TARGETS: &[Parameter] = &[some!("targets", Nodes)];
 
-const ALIAS: &[Parameter] = &[
+pub const ALIAS: &[Parameter] = &[
     one!("target", Nodes),
     option!("source", Nodes),
     option!("action", None),
 ];
 
-const HELP: &[Parameter] = &[one!("text", Text), option!("append", False)];
+pub const HELP: &[Parameter] = &[one!("text", Text), option!("append", False)];
 
-const DECIDER: &[Parameter] = &[one!("function", Text)];
+pub const DECIDER: &[Parameter] = &[one!("function", Text)];
 
-const GLOB: &[Parameter] = &[
+pub const GLOB: &[Parameter] = &[
     one!("pattern", Text),
     option!("ondisk", True),
     option!("source", False),
@@ -126,19 +129,19 @@ const GLOB: &[Parameter] = &[
     option!("exclude", None),
 ];
 
-const PLACE: &[Parameter] = &[one!("name", Place)];
+pub const PLACE: &[Parameter] = &[one!("name", Place)];
 
-const ARGUMENT: &[Parameter] = &[one!("arg", Any)];
+pub const ARGUMENT: &[Parameter] = &[one!("arg", Any)];
 
-const VERSION: &[Parameter] = &[
+pub const VERSION: &[Parameter] = &[
     one!("major", Any),
     option!("minor", Any),
     option!("revision", Any),
 ];
 
-const NONE: &[&str] = &[];
+pub const NONE: &[&str] = &[];
 
-const OF_ENVIRONMENTS: &[&str] = &[
+pub const OF_ENVIRONMENTS: &[&str] = &[
     "platform",
     "tools",
     "toolpath",
@@ -147,7 +150,7 @@ const OF_ENVIRONMENTS: &[&str] = &[
     "parse_flags",
 ];
 
-const OF_BUILDS: &[&str] = &[
+pub const OF_BUILDS: &[&str] = &[
     "chdir",
     "srcdir",
     "parse_flags",
@@ -156,7 +159,7 @@ const OF_BUILDS: &[&str] = &[
     "sources",
 ];
 
-const OF_COMMANDS: &[&str] = &[
+pub const OF_COMMANDS: &[&str] = &[
     "source_scanner",
     "target_scanner",
     "source_factory",
@@ -171,18 +174,20 @@ const OF_COMMANDS: &[&str] = &[
     "sources",
 ];
 
-const OF_SUBST: &[&str] = &["target", "source", "conv", "executor", "overrides"];
+pub const OF_SUBST: &[&str] = &["target", "source", "conv", "executor", "overrides"];
 
-const OF_SCRIPTS: &[&str] = &["dirs", "name", "src_dir", "must_exist"];
+pub const OF_SCRIPTS: &[&str] = &["dirs", "name", "src_dir", "must_exist"];
 
-const OF_RETURNS: &[&str] = &["stop"];
+pub const OF_RETURNS: &[&str] = &["stop"];
 
-const OF_PLACES: &[&str] = &["directory", "create"];
+pub const OF_PLACES: &[&str] = &["directory", "create"];
 
 /// The signature of a name.
-pub fn signature(name: Name) -> Signature {
+pub fn signature(name: Name) -> Signature
+    ensures { result ≡ signature_of name }
+{
     match name {
-        Name::Builds(builds) => of_builds(builds),
+        Name::Builds(_) => own_builder_signature(),
         Name::Environs(environs) => of_environs(environs),
         Name::Says(says) => of_says(says),
         Name::Tells(tells) => of_tells(tells),
@@ -190,14 +195,9 @@ pub fn signature(name: Name) -> Signature {
     }
 }
 
-fn of_builds(builds: Builds) -> Signature {
-    match builds {
-        Builds::Object | Builds::Program => own_builder_signature(),
-        Builds::StaticLibrary | Builds::Library => own_builder_signature(),
-    }
-}
-
-fn of_environs(environs: Environs) -> Signature {
+fn of_environs(environs: Environs) -> Signature
+    ensures { result ≡ of_environs environs }
+{
     let (parameters, left_out, others) = match environs {
         Environs::Environment | Environs::DefaultEnvironment | Environs::Clone => (
             VARIABLES,
@@ -222,7 +222,9 @@ fn of_environs(environs: Environs) -> Signature {
     }
 }
 
-fn of_says(says: Says) -> Signature {
+fn of_says(says: Says) -> Signature
+    ensures { result ≡ of_says says }
+{
     let (parameters, left_out) = match says {
         Says::Install => (INSTALL, NONE),
         Says::InstallAs => (INSTALL_AS, NONE),
@@ -240,7 +242,9 @@ fn of_says(says: Says) -> Signature {
     }
 }
 
-fn of_tells(tells: Tells) -> Signature {
+fn of_tells(tells: Tells) -> Signature
+    ensures { result ≡ of_tells tells }
+{
     let parameters = match tells {
         Tells::Get => TEXT_AND_DEFAULT,
         Tells::Glob => GLOB,
@@ -254,7 +258,9 @@ fn of_tells(tells: Tells) -> Signature {
     }
 }
 
-fn of_shares(shares: Shares) -> Signature {
+fn of_shares(shares: Shares) -> Signature
+    ensures { result ≡ of_shares shares }
+{
     let (parameters, left_out, others) = match shares {
         Shares::SConscript => (SCRIPTS, OF_SCRIPTS, Others::Refused),
         Shares::Export => (EXPORT, NONE, Others::Exports),
@@ -269,7 +275,9 @@ fn of_shares(shares: Shares) -> Signature {
 }
 
 /// The signature of a builder, also of one that a script has made.
-pub fn own_builder_signature() -> Signature {
+pub fn own_builder_signature() -> Signature
+    ensures { result ≡ of_builds }
+{
     Signature {
         parameters: BUILT,
         left_out: OF_BUILDS,

@@ -6,7 +6,7 @@ use crate::stop::{Refusal, refused};
 use py_heap::{Heap, Value};
 use scons_base::Text;
 use scons_calls::{
-    Thing, flattened, given_value, list_value, nodes_value, text_value, texts_value, variable_value,
+    Thing, flat_items, given_value, list_value, nodes_value, text_value, texts_value, variable_value,
 };
 use scons_decls::{Answer, Call, SayCall};
 
@@ -80,9 +80,8 @@ fn listed(heap: &mut Heap, value: Value) -> Result<Value, Refusal>
 pub fn flat_value(heap: &mut Heap, value: Value) -> Result<Value, Refusal>
     ensures { Extends heap.old heap.new }
 {
-    let mut items = Vec::new(heap.allocator());
-    if let Err(fault) = flattened(heap, &[value], &mut items) {
-        return Err(refused(heap.allocator(), "Flatten", fault));
+    match flat_items(heap, &[value]) {
+        Ok(items) => Ok(list_value(heap, items.as_slice())?),
+        Err(fault) => Err(refused(heap.allocator(), "Flatten", fault)),
     }
-    Ok(list_value(heap, items.as_slice())?)
 }
