@@ -21,7 +21,8 @@ pub fn converted(
     values: &[Value],
 ) -> Result<Argument, CallFault>
     ensures ok { IfOk result (λ a. converted_by heap.now objects.now kind values.now ≡ Ok a) }
-    ensures fault { IfErr result (λ e. e ≢ CallFault.Memory → converted_by heap.now objects.now kind values.now ≡ Err e) }
+    ensures fault { IfErr result (λ e. e ≢ CallFault.Memory →
+        converted_by heap.now objects.now kind values.now ≡ Err e) }
 {
     match kind {
         Kind::Nodes => Ok(Argument::Nodes(nodes(heap, objects, values)?)),

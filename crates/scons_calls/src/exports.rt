@@ -46,7 +46,8 @@ pub fn exports_of(heap: &Heap, values: &[Value]) -> Result<Exports, CallFault>
 #[tactic(auto, using(crate::proofs::Loops::loops))]
 fn exports_in(heap: &Heap, items: &[Value]) -> Result<Exports, CallFault>
     ensures ok { IfOk result (λ exports. along (exported_one heap.now) no_exports items.now ≡ Ok exports) }
-    ensures fault { IfErr result (λ e. e ≢ CallFault.Memory → along (exported_one heap.now) no_exports items.now ≡ Err e) }
+    ensures fault { IfErr result (λ e. e ≢ CallFault.Memory →
+        along (exported_one heap.now) no_exports items.now ≡ Err e) }
 {
     let mut exports = Exports::new(heap.allocator());
     for item in items {

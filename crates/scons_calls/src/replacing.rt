@@ -24,7 +24,8 @@ pub fn pairs(heap: &Heap, value: Value) -> Result<Pairs, CallFault>
 #[tactic(auto, using(crate::proofs::Loops::loops))]
 fn pairs_of(heap: &Heap, dict: DictId) -> Result<Pairs, CallFault>
     ensures ok { IfOk result (λ pairs. each (replaced_pair heap.now) (pairs_in heap.now dict.0) ≡ Ok pairs) }
-    ensures fault { IfErr result (λ e. e ≢ CallFault.Memory → each (replaced_pair heap.now) (pairs_in heap.now dict.0) ≡ Err e) }
+    ensures fault { IfErr result (λ e. e ≢ CallFault.Memory →
+        each (replaced_pair heap.now) (pairs_in heap.now dict.0) ≡ Err e) }
 {
     let mut pairs = Listing::empty(heap.allocator());
     'pairs: for at in 0..heap.dict_len(dict) {

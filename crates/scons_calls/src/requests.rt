@@ -66,7 +66,8 @@ fn asked(
     args: &Args,
 ) -> Result<Request, CallFault>
     ensures ok { IfOk result (λ r. asked name arguments.old variables args.now.named ≡ Ok r) }
-    ensures fault { IfErr result (λ e. e ≢ CallFault.Memory → asked name arguments.old variables args.now.named ≡ Err e) }
+    ensures fault { IfErr result (λ e. e ≢ CallFault.Memory →
+        asked name arguments.old variables args.now.named ≡ Err e) }
 {
     match name {
         Name::Builds(name) => built(alloc, maker_of(name), arguments, variables),
