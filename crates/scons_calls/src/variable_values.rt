@@ -33,7 +33,8 @@ pub fn variable_value(
 
 #[tactic(auto, using(crate::proofs::Standing::standing, crate::proofs::Tails::tails))]
 fn items_value(heap: &mut Heap, objects: &mut Objects, items: &[Item]) -> Result<Value, ValueFault>
-    ensures ok { IfOk result (λ v. listed (item_values objects.old heap.old items.now) ≡ Ok (v, objects.new, heap.new)) }
+    ensures ok { IfOk result (λ v.
+        listed (item_values objects.old heap.old items.now) ≡ Ok (v, objects.new, heap.new)) }
     ensures fault { IfErr result (λ e. e ≢ ValueFault.Memory →
         listed (item_values objects.old heap.old items.now) ≡ Err e) }
     ensures stands { Extends heap.old heap.new }
