@@ -125,7 +125,7 @@ pub(crate) fn set_decider(
     let Some(decider) = decider_named(name.as_str()) else {
         return Err(bad_argument(state, "Decider"));
     };
-    state.envs.set_decider(env, decider)?;
+    state.envs.set_decider(env, decider);
     Ok(Answer::Nothing)
 }
 

@@ -2,8 +2,8 @@
 use env_subst::Mode;
 use scons_base::{EnvId, Listing, Paths, Text};
 use scons_decls::{
-    AliasParts, Answer, Asked, Declarations, Given, NameFault, Nodes, Place, Said, Saying,
-    bad_argument, expanded, file_of, path_at,
+    Answer, Asked, Declarations, Given, NameFault, Nodes, Place, Role, Said, Saying, bad_argument,
+    expanded, file_of, path_at,
 };
 
 /// `Depends(targets, nodes)` and its kin. They answer the targets.
@@ -43,9 +43,15 @@ fn say_of(
     if let Some(name) = alias_in(state, target) {
         let name = name.copy()?;
         match saying {
-            Saying::Depends => add_members(state, &name, nodes)?,
-            Saying::Requires => add_required(state, &name, nodes)?,
-            Saying::Ignore => add_ignored(state, &name, nodes)?,
+            Saying::Depends => state
+                .aliases
+                .add(state.alloc, &name, Role::Member, nodes)?,
+            Saying::Requires => state
+                .aliases
+                .add(state.alloc, &name, Role::Required, nodes)?,
+            Saying::Ignore => state
+                .aliases
+                .add(state.alloc, &name, Role::Ignored, nodes)?,
             Saying::Always => {}
         }
         return Ok(Given::Alias(name));
@@ -109,7 +115,9 @@ pub(crate) fn alias(
     let mut answer = Listing::empty(state.alloc);
     for name in names {
         let name = alias_name(state, env, name)?;
-        add_members(state, &name, members.as_slice())?;
+        state
+            .aliases
+            .add(state.alloc, &name, Role::Member, members.as_slice())?;
         answer.push(Given::Alias(name))?;
     }
     if answer.is_empty() {
@@ -124,56 +132,6 @@ fn alias_name(state: &Declarations, env: EnvId, given: &Given) -> Result<Text, N
         Given::Alias(name) => Ok(name.copy()?),
         Given::File(_) | Given::Dir(_) => Err(bad_argument(state, "Alias")),
     }
-}
-
-fn add_members(state: &mut Declarations, name: &Text, members: &[Given]) -> Result<(), NameFault> {
-    let members = copies_of(state, members)?;
-    let parts = parts_of(state, name)?;
-    push_all(&mut parts.members, members)
-}
-
-fn add_required(state: &mut Declarations, name: &Text, nodes: &[Given]) -> Result<(), NameFault> {
-    let nodes = copies_of(state, nodes)?;
-    let parts = parts_of(state, name)?;
-    push_all(&mut parts.required, nodes)
-}
-
-fn add_ignored(state: &mut Declarations, name: &Text, nodes: &[Given]) -> Result<(), NameFault> {
-    let nodes = copies_of(state, nodes)?;
-    let parts = parts_of(state, name)?;
-    push_all(&mut parts.ignored, nodes)
-}
-
-/// What an alias stands for, which is nothing where it is new.
-fn parts_of<'a>(state: &'a mut Declarations, name: &Text) -> Result<&'a mut AliasParts, NameFault> {
-    if !state.aliases.contains_key(name.as_str()) {
-        let parts = AliasParts {
-            required: Vec::new(state.alloc),
-            members: Vec::new(state.alloc),
-            ignored: Vec::new(state.alloc),
-        };
-        let name = String::from_str(state.alloc, name.as_str())?;
-        state.aliases.insert(name, parts)?;
-    }
-    match state.aliases.get_mut(name.as_str()) {
-        Some(parts) => Ok(parts),
-        None => Err(NameFault::Memory),
-    }
-}
-
-fn copies_of(state: &Declarations, members: &[Given]) -> Result<Vec<Given>, NameFault> {
-    let mut copies = Vec::new(state.alloc);
-    for member in members {
-        copies.push(member.copy()?)?;
-    }
-    Ok(copies)
-}
-
-fn push_all(there: &mut Vec<Given>, more: Vec<Given>) -> Result<(), NameFault> {
-    for member in more {
-        there.push(member)?;
-    }
-    Ok(())
 }
 
 /// `Default(targets)`

@@ -1,2 +1,12 @@
-pub mod Held
+pub mod Faults
+pub mod Steps
+pub mod Tables
+pub mod Profile
+pub mod References
+pub mod Environs
+pub mod Targets
+pub mod Aliased
+pub mod State
 pub mod Paths
+pub mod Scripts
+pub mod Languages

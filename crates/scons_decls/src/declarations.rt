@@ -1,11 +1,15 @@
 //! The state of a reading: what the scripts read so far have declared.
+ghost use Rattle.std.specs.Prelude.{◌≡◌, IfOk, codes, []};
+ghost use Rattle.scons_decls.specs.Environs.{builder_of};
+ghost use Rattle.scons_decls.specs.State.{declared_of, IsFresh};
+
+use crate::aliases::Aliases;
 use crate::builder::Builder;
 use crate::environments::Environments;
 use crate::made::Made;
 use crate::rule::Declaration;
-use crate::said::{AliasParts, Asked, Said};
+use crate::said::{Asked, Said};
 use env_subst::Locals;
-use indexmap::IndexMap;
 use scons_base::{EnvId, Memory, PathText, Text, Texts};
 use std::alloc::Global;
 use variant_dirs::Variants;
@@ -21,7 +25,7 @@ pub struct Declarations {
     pub rules: Vec<Declaration>,
     pub made: Made,
     pub said: Vec<Said>,
-    pub aliases: IndexMap<String, AliasParts>,
+    pub aliases: Aliases,
     pub defaults: Vec<Asked>,
     pub helps: Texts,
     /// The directories of the scripts around the one that runs.
@@ -30,7 +34,9 @@ pub struct Declarations {
 
 impl Declarations {
     /// Nothing is declared. `top` is the absolute path of the top directory.
-    pub fn new(alloc: Global, top: PathText) -> Result<Declarations, Memory> {
+    pub fn new(alloc: Global, top: PathText) -> Result<Declarations, Memory>
+        ensures { IfOk result (λ d. IsFresh top (declared_of d)) }
+    {
         let locals = locals_at(alloc, top)?;
         Ok(Declarations {
             alloc,
@@ -40,7 +46,7 @@ impl Declarations {
             rules: Vec::new(alloc),
             made: Made::new(alloc),
             said: Vec::new(alloc),
-            aliases: IndexMap::new(alloc),
+            aliases: Aliases::new(alloc),
             defaults: Vec::new(alloc),
             helps: Texts::new(Vec::new(alloc)),
             outer_dirs: Vec::new(alloc),
@@ -48,17 +54,25 @@ impl Declarations {
     }
 
     /// The environment of the names that stand alone.
-    pub fn default_env(&self) -> EnvId {
+    pub fn default_env(&self) -> EnvId
+        ensures { result.0 ≡ 0 }
+    {
         EnvId(0)
     }
 
     /// The number of the builder that an environment has under a name.
-    pub fn builder_of(&self, env: EnvId, name: &str) -> Option<u32> {
+    pub fn builder_of(&self, env: EnvId, name: &str) -> Option<u32>
+        ensures { result ≡ builder_of self.now.envs env.0 name.now }
+    {
         self.envs.builder_of(env, name)
     }
 }
 
-fn locals_at(alloc: Global, top: PathText) -> Result<Locals, Memory> {
+fn locals_at(alloc: Global, top: PathText) -> Result<Locals, Memory>
+    ensures top { IfOk result (λ l. l.top ≡ top) }
+    ensures dir { IfOk result (λ l. l.dir ≡ codes ".") }
+    ensures variants { IfOk result (λ l. l.variants ≡ []) }
+{
     let dir = match PathText::read(alloc, ".") {
         Ok(dir) => dir,
         Err(_) => return Err(Memory),

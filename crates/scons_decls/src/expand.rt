@@ -1,8 +1,9 @@
 //! Texts of a script, expanded, and read as paths from the script's directory.
-ghost use Rattle.std.specs.Prelude.{◌≡◌, None, length, IfOk};
-ghost use Rattle.scons_base.specs.Resolve.{resolved, resolve_fault};
+ghost use Rattle.std.specs.Prelude.{◌≡◌, ◌≢◌, Ok, Err, map, IfOk, IfErr};
 ghost use Rattle.env_subst.specs.Expansions.{is_literal};
-ghost use Rattle.scons_decls.specs.Paths.{IsPathOf};
+ghost use Rattle.scons_decls.specs.Environs as environs;
+ghost use Rattle.scons_decls.specs.State.{declared_of};
+ghost use Rattle.scons_decls.specs.Paths as spec;
 
 use crate::declarations::Declarations;
 use crate::fault::NameFault;
@@ -11,19 +12,18 @@ use env_subst::Mode;
 use scons_base::{EnvId, Listing, PathText, Paths, Text};
 
 /// What a text stands for in an environment.
-pub fn expanded(
-    state: &Declarations,
-    env: EnvId,
-    text: &str,
-    mode: Mode,
-) -> Result<Text, NameFault> {
+pub fn expanded(state: &Declarations, env: EnvId, text: &str, mode: Mode) -> Result<Text, NameFault>
+    ensures ok { IfOk result (λ t. environs.expanded state.now.envs state.now.locals env.0 mode text.now ≡ Ok t) }
+    ensures fault { IfErr result (λ e. e ≢ NameFault.Memory
+        → environs.expanded state.now.envs state.now.locals env.0 mode text.now ≡ Err e) }
+{
     state.envs.subst(env, text, &state.locals, mode)
 }
 
 /// The path that an expanded text names.
 pub fn path_at(state: &Declarations, text: &str) -> Result<PathText, NameFault>
-    ensures path { IfOk result (λ p. p ≡ resolved state.now.locals.top state.now.locals.dir text.now) }
-    ensures no_fault { IfOk result (λ _. resolve_fault state.now.locals.top state.now.locals.dir text.now ≡ None) }
+    ensures ok { IfOk result (λ p. spec.path_at (declared_of state.now) text.now ≡ Ok p) }
+    ensures fault { IfErr result (λ e. e ≢ NameFault.Memory → spec.path_at (declared_of state.now) text.now ≡ Err e) }
 {
     let locals = &state.locals;
     Ok(PathText::resolve(state.alloc, &locals.top, &locals.dir, text)?)
@@ -31,7 +31,9 @@ pub fn path_at(state: &Declarations, text: &str) -> Result<PathText, NameFault>
 
 /// The path that a text names.
 pub fn path_of(state: &Declarations, env: EnvId, text: &Text) -> Result<PathText, NameFault>
-    ensures { IfOk result (IsPathOf state.now env.0 text.now) }
+    ensures ok { IfOk result (λ p. spec.path_of (declared_of state.now) env.0 text.now ≡ Ok p) }
+    ensures fault { IfErr result (λ e. e ≢ NameFault.Memory
+        → spec.path_of (declared_of state.now) env.0 text.now ≡ Err e) }
 {
     if is_literal(text.as_str()) {
         return path_at(state, text.as_str());
@@ -48,7 +50,9 @@ fn is_literal(text: &str) -> bool
 }
 
 /// The fault of a call whose arguments are wrong.
-pub fn bad_argument(state: &Declarations, name: &str) -> NameFault {
+pub fn bad_argument(state: &Declarations, name: &str) -> NameFault
+    ensures { result ≢ NameFault.Memory → result ≡ NameFault.BadArgument name.now }
+{
     match Text::of(state.alloc, name) {
         Ok(name) => NameFault::BadArgument(name),
         Err(_) => NameFault::Memory,
@@ -61,7 +65,11 @@ pub fn file_of(
     env: EnvId,
     given: &Given,
     name: &str,
-) -> Result<PathText, NameFault> {
+) -> Result<PathText, NameFault>
+    ensures ok { IfOk result (λ p. spec.file_of (declared_of state.now) env.0 name.now given.now ≡ Ok p) }
+    ensures fault { IfErr result (λ e. e ≢ NameFault.Memory
+        → spec.file_of (declared_of state.now) env.0 name.now given.now ≡ Err e) }
+{
     match given {
         Given::Text(text) => path_of(state, env, text),
         Given::File(path) => Ok(path.copy()?),
@@ -75,7 +83,11 @@ pub fn dir_of(
     env: EnvId,
     given: &Given,
     name: &str,
-) -> Result<PathText, NameFault> {
+) -> Result<PathText, NameFault>
+    ensures ok { IfOk result (λ p. spec.dir_of (declared_of state.now) env.0 name.now given.now ≡ Ok p) }
+    ensures fault { IfErr result (λ e. e ≢ NameFault.Memory
+        → spec.dir_of (declared_of state.now) env.0 name.now given.now ≡ Err e) }
+{
     match given {
         Given::Text(text) => path_of(state, env, text),
         Given::Dir(path) => Ok(path.copy()?),
@@ -89,7 +101,11 @@ pub fn files_of(
     env: EnvId,
     given: &[Given],
     name: &str,
-) -> Result<Paths, NameFault> {
+) -> Result<Paths, NameFault>
+    ensures ok { IfOk result (λ p. spec.files_of (declared_of state.now) env.0 name.now given.now ≡ Ok p) }
+    ensures fault { IfErr result (λ e. e ≢ NameFault.Memory
+        → spec.files_of (declared_of state.now) env.0 name.now given.now ≡ Err e) }
+{
     let mut paths = Paths::new(Vec::new(state.alloc));
     for one in given {
         paths.push(file_of(state, env, one, name)?)?;
@@ -99,7 +115,8 @@ pub fn files_of(
 
 /// A copy of a list of paths.
 pub fn listed(state: &Declarations, paths: &[PathText]) -> Result<Paths, NameFault>
-    ensures { IfOk result (λ p. length p ≡ length paths.now) }
+    ensures ok { IfOk result (λ p. p ≡ paths.now) }
+    ensures fault { IfErr result (λ e. e ≡ NameFault.Memory) }
 {
     let mut list = Paths::new(Vec::new(state.alloc));
     for path in paths {
@@ -109,7 +126,10 @@ pub fn listed(state: &Declarations, paths: &[PathText]) -> Result<Paths, NameFau
 }
 
 /// Files as a call answers them.
-pub fn as_nodes(state: &Declarations, paths: &[PathText]) -> Result<Nodes, NameFault> {
+pub fn as_nodes(state: &Declarations, paths: &[PathText]) -> Result<Nodes, NameFault>
+    ensures ok { IfOk result (λ n. n ≡ map Given.File paths.now) }
+    ensures fault { IfErr result (λ e. e ≡ NameFault.Memory) }
+{
     let mut nodes = Listing::empty(state.alloc);
     for path in paths {
         nodes.push(Given::File(path.copy()?))?;

@@ -1,6 +1,7 @@
 //! Why a call of a SCons name is refused.
 ghost use Rattle.std.specs.Prelude.{◌≡◌};
 ghost use Rattle.scons_decls.specs.declared.fault.NameFault.TheVariants.{Memory};
+ghost use Rattle.scons_decls.specs.Faults.{of_subst, of_given, of_path, of_variant};
 
 use env_subst::SubstFault;
 use env_vars::GivenFault;
@@ -65,6 +66,8 @@ impl<T: Drop> From<AllocFailed<T>> for NameFault {
 }
 
 impl From<SubstFault> for NameFault {
+    ghost from_gives = { λ fault e. e ≡ of_subst fault };
+
     fn from(fault: SubstFault) -> Self {
         match fault {
             SubstFault::Memory => NameFault::Memory,
@@ -74,6 +77,8 @@ impl From<SubstFault> for NameFault {
 }
 
 impl From<GivenFault> for NameFault {
+    ghost from_gives = { λ fault e. e ≡ of_given fault };
+
     fn from(fault: GivenFault) -> Self {
         match fault {
             GivenFault::TooLong => NameFault::Subst(SubstFault::TooLong(TEXT_LIMIT + 1)),
@@ -83,6 +88,8 @@ impl From<GivenFault> for NameFault {
 }
 
 impl From<PathFault> for NameFault {
+    ghost from_gives = { λ fault e. e ≡ of_path fault };
+
     fn from(fault: PathFault) -> Self {
         match fault {
             PathFault::Memory => NameFault::Memory,
@@ -92,6 +99,8 @@ impl From<PathFault> for NameFault {
 }
 
 impl From<VariantFault> for NameFault {
+    ghost from_gives = { λ fault e. e ≡ of_variant fault };
+
     fn from(fault: VariantFault) -> Self {
         match fault {
             VariantFault::Memory => NameFault::Memory,

@@ -39,7 +39,7 @@ impl Declarations {
         let source = source_of(self, &place.dir)?;
         let mut found = IndexSet::new(self.alloc);
         if let Some(targets) = self.made.in_dir(&place.dir) {
-            add_fitting(self, &mut found, &place, None, targets)?;
+            add_fitting(self, &mut found, &place, None, targets.as_slice())?;
         }
         if let Some(source) = &source {
             add_made_in(self, &mut found, &place, source)?;
@@ -59,7 +59,7 @@ fn add_made_in(
     source: &PathText,
 ) -> Result<(), NameFault> {
     match state.made.in_dir(source) {
-        Some(targets) => add_fitting(state, found, place, Some(source), targets),
+        Some(targets) => add_fitting(state, found, place, Some(source), targets.as_slice()),
         None => Ok(()),
     }
 }

@@ -5,6 +5,7 @@
 //! of a directory for Glob, is handed in.
 #![tactic(auto)]
 
+mod aliases;
 mod answer;
 mod builder;
 mod call;
@@ -16,6 +17,7 @@ mod given;
 mod glob;
 mod language;
 mod made;
+mod numbers;
 mod pattern;
 mod place;
 mod profile;
@@ -23,7 +25,9 @@ mod references;
 mod rule;
 mod said;
 mod scripts;
+mod targets;
 
+pub use aliases::{AliasParts, Aliases, Role};
 pub use answer::Answer;
 pub use builder::Builder;
 pub use call::{Call, Change, Maker, RuleCall, SayCall};
@@ -40,5 +44,5 @@ pub use place::Place;
 pub use profile::{refuse_reading, refuse_variable, refuse_variables};
 pub use references::refuse_value;
 pub use rule::{Declaration, Recipe};
-pub use said::{AliasParts, Asked, Said, Saying};
+pub use said::{Asked, Said, Saying};
 pub use scripts::ScriptPlace;

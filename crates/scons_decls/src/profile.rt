@@ -1,4 +1,8 @@
 //! Which variables a script may set, read and refer to.
+ghost use Rattle.std.specs.Prelude.{◌≡◌, ◌≢◌, Ok, Err, OnOk, IfErr};
+ghost use Rattle.scons_decls.specs.Profile.{is_left_out, is_not_set, is_not_read, may_set, may_read};
+ghost use Rattle.scons_decls.specs.References.{vars_allowed};
+
 use crate::fault::NameFault;
 use crate::references::refuse_value;
 use env_vars::EnvValue;
@@ -131,36 +135,63 @@ const NOT_READ: [&str; 8] = [
     "CONFIGURELOG",
 ];
 
+/// The lists of sources and targets by whether they changed.
+const CHANGED: [&str; 4] = [
+    "CHANGED_SOURCES",
+    "CHANGED_TARGETS",
+    "UNCHANGED_SOURCES",
+    "UNCHANGED_TARGETS",
+];
+
 /// Whether a text that refers to the variable is refused. What links and what looks directories up have a meaning in texts.
-pub(crate) fn is_left_out(name: &str) -> bool {
-    is_changed_list(name) || (LEFT_OUT.contains(&name) && name != "SMARTLINK" && name != "RDirs")
+#[tactic(auto, unfolding(crate::specs::Profile::is_left_out))]
+pub(crate) fn is_left_out(name: &str) -> bool
+    ensures { result ≡ is_left_out name.now }
+{
+    CHANGED.contains(&name) || (LEFT_OUT.contains(&name) && name != "SMARTLINK" && name != "RDirs")
 }
 
-/// The lists of sources and targets by whether they changed.
-fn is_changed_list(name: &str) -> bool {
-    matches!(
-        name.as_bytes(),
-        b"CHANGED_SOURCES" | b"CHANGED_TARGETS" | b"UNCHANGED_SOURCES" | b"UNCHANGED_TARGETS"
-    )
+#[tactic(auto, unfolding(crate::specs::Profile::is_not_set))]
+fn is_not_set(name: &str) -> bool
+    ensures { result ≡ is_not_set name.now }
+{
+    NOT_SET.contains(&name) || LEFT_OUT.contains(&name)
+}
+
+#[tactic(auto, unfolding(crate::specs::Profile::is_not_read))]
+fn is_not_read(name: &str) -> bool
+    ensures { result ≡ is_not_read name.now }
+{
+    is_left_out(name) || NOT_READ.contains(&name)
 }
 
 /// Refuses to set a variable on which SCons acts and this program doesn't.
-pub fn refuse_variable(alloc: Global, name: &str) -> Result<(), NameFault> {
-    if NOT_SET.contains(&name) || LEFT_OUT.contains(&name) {
+pub fn refuse_variable(alloc: Global, name: &str) -> Result<(), NameFault>
+    ensures ok { OnOk result (may_set name.now ≡ Ok tt) }
+    ensures fault { IfErr result (λ e. e ≢ NameFault.Memory → may_set name.now ≡ Err e) }
+{
+    if is_not_set(name) {
         return Err(out_of_profile(alloc, name));
     }
     Ok(())
 }
 
 /// Refuses to read a variable that isn't there, and to which SCons gives a value.
-pub fn refuse_reading(alloc: Global, name: &str) -> Result<(), NameFault> {
-    if is_left_out(name) || NOT_READ.contains(&name) {
+pub fn refuse_reading(alloc: Global, name: &str) -> Result<(), NameFault>
+    ensures ok { OnOk result (may_read name.now ≡ Ok tt) }
+    ensures fault { IfErr result (λ e. e ≢ NameFault.Memory → may_read name.now ≡ Err e) }
+{
+    if is_not_read(name) {
         return Err(out_of_profile(alloc, name));
     }
     Ok(())
 }
 
-pub fn refuse_variables(alloc: Global, values: &[(Text, EnvValue)]) -> Result<(), NameFault> {
+/// Refuses variables with their values, in their order.
+pub fn refuse_variables(alloc: Global, values: &[(Text, EnvValue)]) -> Result<(), NameFault>
+    ensures ok { OnOk result (vars_allowed values.now ≡ Ok tt) }
+    ensures fault { IfErr result (λ e. e ≢ NameFault.Memory → vars_allowed values.now ≡ Err e) }
+{
     for (name, value) in values {
         refuse_variable(alloc, name.as_str())?;
         refuse_value(alloc, value)?;
@@ -168,7 +199,9 @@ pub fn refuse_variables(alloc: Global, values: &[(Text, EnvValue)]) -> Result<()
     Ok(())
 }
 
-fn out_of_profile(alloc: Global, name: &str) -> NameFault {
+pub(crate) fn out_of_profile(alloc: Global, name: &str) -> NameFault
+    ensures { result ≢ NameFault.Memory → result ≡ NameFault.OutOfProfile name.now }
+{
     match Text::of(alloc, name) {
         Ok(name) => NameFault::OutOfProfile(name),
         Err(_) => NameFault::Memory,

@@ -1,7 +1,7 @@
 //! What is said of nodes that have or will have a rule: Depends, Requires, Ignore, AlwaysBuild; Alias and Default.
-use crate::given::Given;
+use crate::given::Nodes;
 use crate::place::Place;
-use scons_base::{Listing, PathText, Paths, Text};
+use scons_base::{PathText, Paths, Text};
 
 /// What is said of a target.
 #[derive(Clone, Copy, Debug, PartialEq, Eq)]
@@ -30,15 +30,7 @@ pub struct Said {
     pub place: Place,
     pub saying: Saying,
     pub targets: Paths,
-    pub nodes: Listing<Given>,
-}
-
-/// What an alias stands for: what it requires, and behind that its members but those that are ignored.
-#[derive(Drop)]
-pub struct AliasParts {
-    pub required: Vec<Given>,
-    pub members: Vec<Given>,
-    pub ignored: Vec<Given>,
+    pub nodes: Nodes,
 }
 
 /// What was given to Default: a text may name an alias, which is known once all scripts are read.

@@ -1,4 +1,8 @@
 //! Scripts that read scripts, and variant directories.
+ghost use Rattle.std.specs.Prelude.{◌≡◌, ◌≢◌, Ok, Err, IfOk, IfErr, OnOk, Some, option_copied};
+ghost use Rattle.scons_decls.specs.State.{declared_of};
+ghost use Rattle.scons_decls.specs.Scripts as spec;
+
 use crate::declarations::Declarations;
 use crate::expand::{dir_of, file_of};
 use crate::fault::NameFault;
@@ -23,7 +27,12 @@ impl Declarations {
         file: &Given,
         variant: Option<&Given>,
         duplicate: bool,
-    ) -> Result<ScriptPlace, NameFault> {
+    ) -> Result<ScriptPlace, NameFault>
+        ensures ok { IfOk result (λ p. spec.found_script (declared_of self.old) env.0 file.now
+            (option_copied variant.entry) duplicate ≡ Ok (p, declared_of self.new)) }
+        ensures fault { IfErr result (λ e. e ≢ NameFault.Memory
+            → spec.found_script (declared_of self.old) env.0 file.now (option_copied variant.entry) duplicate ≡ Err e) }
+    {
         let path = file_of(self, env, file, "SConscript")?;
         let path = match variant {
             Some(variant) => self.enter_variant(env, path, variant, duplicate)?,
@@ -39,7 +48,12 @@ impl Declarations {
         path: PathText,
         variant: &Given,
         duplicate: bool,
-    ) -> Result<PathText, NameFault> {
+    ) -> Result<PathText, NameFault>
+        ensures ok { IfOk result (λ p. spec.entered (declared_of self.old) env.0 path (Some variant.now) duplicate
+            ≡ Ok (p, declared_of self.new)) }
+        ensures fault { IfErr result (λ e. e ≢ NameFault.Memory
+            → spec.entered (declared_of self.old) env.0 path (Some variant.now) duplicate ≡ Err e) }
+    {
         let dir = dir_of(self, env, variant, "SConscript")?;
         let source = PathText::read(self.alloc, path.dir())?;
         self.locals.variants.add(&dir, &source, duplicate)?;
@@ -49,7 +63,10 @@ impl Declarations {
         }
     }
 
-    fn script_at(&self, path: PathText) -> Result<ScriptPlace, NameFault> {
+    fn script_at(&self, path: PathText) -> Result<ScriptPlace, NameFault>
+        ensures ok { IfOk result (λ p. spec.script_at (declared_of self.now) path ≡ Ok p) }
+        ensures fault { IfErr result (λ e. e ≢ NameFault.Memory → spec.script_at (declared_of self.now) path ≡ Err e) }
+    {
         let dir = PathText::read(self.alloc, path.dir())?;
         let source = self.locals.variants.source_of(&self.locals.top, &path)?;
         let copied = self.is_copied(&path);
@@ -69,7 +86,9 @@ impl Declarations {
     }
 
     /// Whether a path lies in a variant directory with copies.
-    pub(crate) fn is_copied(&self, path: &PathText) -> bool {
+    pub(crate) fn is_copied(&self, path: &PathText) -> bool
+        ensures { result ≡ spec.is_copied (declared_of self.now) path.now }
+    {
         match self.locals.variants.variant_of(path) {
             Some(variant) => variant.duplicate,
             None => false,
@@ -77,7 +96,10 @@ impl Declarations {
     }
 
     /// A script begins whose texts are read from this directory.
-    pub fn begin_script(&mut self, dir: &PathText) -> Result<(), NameFault> {
+    pub fn begin_script(&mut self, dir: &PathText) -> Result<(), NameFault>
+        ensures ok { OnOk result (spec.begun (declared_of self.old) dir.now ≡ Ok (declared_of self.new)) }
+        ensures fault { IfErr result (λ e. e ≢ NameFault.Memory → spec.begun (declared_of self.old) dir.now ≡ Err e) }
+    {
         if self.outer_dirs.len() > SCRIPT_DEPTH_LIMIT as usize {
             return Err(NameFault::ScriptDepth);
         }
@@ -88,7 +110,9 @@ impl Declarations {
     }
 
     /// The script that runs has ended.
-    pub fn end_script(&mut self) {
+    pub fn end_script(&mut self)
+        ensures { declared_of self.new ≡ spec.ended (declared_of self.old) }
+    {
         if let Some(dir) = self.outer_dirs.pop() {
             self.locals.dir = dir;
         }

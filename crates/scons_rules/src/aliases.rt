@@ -1,9 +1,9 @@
 //! The members of aliases, with those of aliases among them.
 use crate::orders::{Step, all_flattened};
 use crate::sources::settled;
-use indexmap::{IndexMap, IndexSet};
+use indexmap::IndexSet;
 use scons_base::{Memory, PathText, Paths};
-use scons_decls::{AliasParts, Declarations, Given};
+use scons_decls::{AliasParts, Aliases as Named, Declarations, Given};
 use std::alloc::Global;
 
 /// The files and directories that aliases stand for. Where an alias is a member its members stand in its place, depth first, and
@@ -156,7 +156,7 @@ fn push_steps(
 }
 
 fn step_of(
-    aliases: &IndexMap<String, AliasParts>,
+    aliases: &Named,
     ignored: &Ignored,
     members: &mut Vec<Given>,
     member: &Given,
@@ -178,7 +178,7 @@ fn step_of(
 
 fn ignored_by(alloc: Global, parts: &AliasParts) -> Result<Ignored, Memory> {
     let mut ignored = Ignored::new(alloc);
-    for node in &parts.ignored {
+    for node in parts.ignored.as_slice() {
         ignore(alloc, &mut ignored, node)?;
     }
     Ok(ignored)
