@@ -5,6 +5,7 @@ mod Alongs
 mod Clearing
 pub mod Holding
 pub mod Goings
+pub mod Counting
 pub mod Causing
 pub mod Outs
 pub mod Sites

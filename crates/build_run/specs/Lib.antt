@@ -1,6 +1,7 @@
 pub mod Along
 pub mod Books
 pub mod Causes
+pub mod Counting
 pub mod Goings
 pub mod Holds
 pub mod Ledgers

@@ -3,14 +3,14 @@ ghost use Rattle.std.specs.Prelude.{◌≡◌, [], true, false, IfOk, IfSome, If
 ghost use Rattle.world_api.specs.Causes.{Later};
 ghost use Rattle.world_api.specs.Meaning.{Told};
 ghost use Rattle.world_api.specs.Looks.{Looks};
-ghost use Rattle.sign_store.specs.Stores.{IsKept, is_live, map_of};
+ghost use Rattle.sign_store.specs.Stores.{IsKept, is_live};
 ghost use Rattle.task_plan.specs.Cycles.{HasNoCycle};
 ghost use Rattle.build_files.specs.Causes.{HasLookCause, IsQuiet};
 ghost use Rattle.build_run.specs.Along.{is_faulted, KeepsEnds};
 ghost use Rattle.build_run.specs.Causes.{BuildCauses, IsInner};
 ghost use Rattle.build_run.specs.Goings.{Goes, Passes, Stays};
 ghost use Rattle.build_run.specs.Ledgers.{ledger_of, AllAccounts, Reports};
-ghost use Rattle.build_run.specs.Outsets.{wanted_of, BuildRuns, BuildSucceeds, FinishesWell, LeavesCopies, MakesAll, SetsOut, SetsOutBehind, StaysKept};
+ghost use Rattle.build_run.specs.Outsets.{wanted_of, FinishesWell, LeavesCopies, MakesAll, RunsOver, SetsOut, SetsOutBehind, StaysKept, SucceedsOver};
 ghost use Rattle.build_run.specs.Reasons.{EndsForReason, KeepsReason, SiteKeepsReason, StaysReasoned};
 ghost use Rattle.build_run.specs.Safe.{BuildsSafely, GoesSafely, MakesSafely};
 ghost use Rattle.build_run.specs.Sites.{IsSame, SiteAccounts, most_jobs};
@@ -76,9 +76,9 @@ pub fn build<W: World, O: Sink, E: Sink>(
     ensures told { Told W.meaning world.old world.new }
     ensures later { Later (W.meaning.counts world.old) (W.meaning.counts world.new) }
     ensures idle { W.meaning.tells world.new → (W.meaning.around world.new).running ≡ [] }
-    ensures causes { BuildCauses W.meaning O.meaning E.meaning world.old out.old err.old world.new out.new err.new result.faults result.memory }
-    ensures runs { BuildRuns W.meaning (wanted_of graph.old requested.now options.now) (map_of store.old) world.old world.new (map_of store.new) result }
-    ensures succeeds { BuildSucceeds W.meaning (wanted_of graph.old requested.now options.now) (map_of store.old) world.old world.new (map_of store.new) result }
+    ensures causes { BuildCauses W.meaning O.meaning E.meaning world.old out.old err.old world.new out.new err.new result }
+    ensures runs { RunsOver W.meaning (wanted_of graph.old requested.now options.now) store.old world.old store.new world.new result }
+    ensures succeeds { SucceedsOver W.meaning (wanted_of graph.old requested.now options.now) store.old world.old store.new world.new result }
     ensures safe { BuildsSafely W.meaning (wanted_of graph.old requested.now options.now) world.old world.new }
     ensures ends { EndsForReason options.now result }
 {
