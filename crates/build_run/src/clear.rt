@@ -5,6 +5,7 @@ ghost use Rattle.build_run.specs.Books.{RefusesSo};
 ghost use Rattle.build_run.specs.Goings.{ClearsAt, Stays, Leaves, AreGone, AreUnused};
 ghost use Rattle.build_files.specs.Causes.{HasLookCause};
 ghost use Rattle.build_run.specs.Outs.{IsTicketFor, KeepsSome};
+ghost use Rattle.build_run.specs.Noted.{SiteKeepsNoted};
 ghost use Rattle.build_run.specs.Reasons.{EndsLast, SiteKeepsReason};
 ghost use Rattle.build_run.specs.Safe.{GoesSafely, SiteGoesSafely};
 ghost use Rattle.build_run.specs.Sites.{IsSound, IsReady, IsCleared, KeepsRecordsBut, SiteEnds, SiteGoes};
@@ -43,6 +44,7 @@ impl<W: World, O: Sink, E: Sink> Site<'_, '_, W, O, E> {
         ensures safe { SiteGoesSafely W.meaning self.old self.new }
         ensures reason { SiteKeepsReason self.old self.new }
         ensures last { EndsLast result }
+        ensures noted { SiteKeepsNoted self.old self.new }
     {
         let targets = job.targets.as_slice();
         make_dirs(self.account.alloc, self.world, &mut self.run.dirs, targets)?;
@@ -72,6 +74,7 @@ impl<W: World, O: Sink, E: Sink> Site<'_, '_, W, O, E> {
         ensures safe { SiteGoesSafely W.meaning self.old self.new }
         ensures reason { SiteKeepsReason self.old self.new }
         ensures last { EndsLast result }
+        ensures noted { SiteKeepsNoted self.old self.new }
     {
         if !self.store.has_record(ticket) {
             return Ok(());

@@ -9,6 +9,7 @@ ghost use Rattle.world_api.specs.Printing.{Prints};
 ghost use Rattle.build_run.specs.Ledgers.{ledger_of};
 ghost use Rattle.build_run.specs.Holds.{Busy, hold_for, holds_in, KeepsApart};
 ghost use Rattle.build_run.specs.Outs.{IsTicketFor, KeepsSome, ShareNone};
+ghost use Rattle.build_run.specs.Noted.{KeepsNoted, SiteKeepsNoted};
 ghost use Rattle.build_run.specs.Reasons.{EndsLast, SiteKeepsReason, StaysReasoned};
 ghost use Rattle.build_run.specs.Safe.{GoesSafely, SiteGoesSafely};
 ghost use Rattle.build_run.specs.Sites.{IsReady, IsSound, IsSoundWith, KeepsRecordsBut, SiteEnds, SitePasses, holds_after};
@@ -18,8 +19,9 @@ ghost use Rattle.sign_store.specs.Stores.{KeepsTickets, map_of};
 ghost use Rattle.world_api.specs.Meaning.{BanksKept};
 
 use crate::account::Account;
+use crate::names::first_target;
 use crate::site::{Run, Site};
-use build_files::{ListEnd, first_target};
+use build_files::ListEnd;
 use rule_graph::{BuildFault, Graph};
 use scons_base::RuleId;
 use sign_store::{Store, Ticket};
@@ -50,6 +52,7 @@ impl<W: World, O: Sink, E: Sink> Site<'_, '_, W, O, E> {
         ensures reason { SiteKeepsReason self.old self.new }
         ensures last { EndsLast result }
         ensures prints { OnOk result (Prints O.meaning self.old.out.now self.new.out.now text.now) }
+        ensures noted { SiteKeepsNoted self.old self.new }
     {
         self.clear(&job, ticket)?;
         show(self.account, self.out, text)?;
@@ -64,6 +67,7 @@ fn show<O: Sink>(account: &mut Account, out: &mut O, text: &str) -> Result<(), L
     ensures cause { HasPrintCause (O.meaning.faults out.old) (O.meaning.faults out.new) result }
     ensures reason { StaysReasoned account.old account.new }
     ensures prints { OnOk result (Prints O.meaning out.old out.new text.now) }
+    ensures noted { KeepsNoted account.old account.new }
 {
     match print(out, text) {
         Ok(()) => Ok(()),

@@ -3,6 +3,7 @@ ghost use Rattle.std.specs.Prelude.{◌≡◌, ◌≢◌, ◌⊎◌, ◌≤◌, 
 ghost use Rattle.build_run.specs.Along.{ComesOn, GoesAlong, IsReliable, IsSpent, IsWantedOf, RestsAlong, StaysAlong, StepsOr, Tells, TellsAlong};
 ghost use Rattle.build_run.specs.Outsets.{StaysKept};
 ghost use Rattle.build_run.specs.Ledgers.{ledger_of, with_done, Accounts, Keeps, Reports};
+ghost use Rattle.build_run.specs.Noted.{KeepsNoted, NotesDone, SiteKeepsNoted, SiteStaysNoting};
 ghost use Rattle.build_run.specs.Reasons.{EndsLast, SiteKeepsReason, StaysReasoned};
 ghost use Rattle.build_run.specs.Safe.{SiteGoesSafely, TurnsSafely, TurnsSafelyAs};
 ghost use Rattle.build_run.specs.Sites.{IsSound, SiteAccounts, SiteEnds, SitePasses, most_jobs, outside_of};
@@ -32,6 +33,7 @@ impl<W: World, O: Sink, E: Sink> Site<'_, '_, W, O, E> {
         ensures still { RestsAlong W.meaning self.old self.new }
         ensures safe { TurnsSafely W.meaning self.old self.new }
         ensures reason { SiteKeepsReason self.old self.new }
+        ensures noting { SiteStaysNoting self.old self.new }
     {
         self.take_turns();
         self.wait_for_all();
@@ -51,6 +53,7 @@ impl<W: World, O: Sink, E: Sink> Site<'_, '_, W, O, E> {
         ensures halts { IsSpent self.new }
         ensures safe { TurnsSafely W.meaning self.old self.new }
         ensures reason { SiteKeepsReason self.old self.new }
+        ensures noting { SiteStaysNoting self.old self.new }
     {
         for _turn in 0..u64::MAX {
             let wanted = want(self.run, &self.options);
@@ -75,6 +78,7 @@ impl<W: World, O: Sink, E: Sink> Site<'_, '_, W, O, E> {
         ensures halted { self.old.run.now.plan.halted ≡ true → self.new.run.now.plan.halted ≡ true }
         ensures safe { SiteGoesSafely W.meaning self.old self.new }
         ensures reason { SiteKeepsReason self.old self.new }
+        ensures noting { SiteStaysNoting self.old self.new }
     {
         let running = self.run.tickets.len();
         for _turn in 0..running {
@@ -99,6 +103,7 @@ impl<W: World, O: Sink, E: Sink> Site<'_, '_, W, O, E> {
         ensures halts { done ≡ Err ListEnd.Memory → self.new.run.now.plan.halted ≡ true }
         ensures safe { SiteGoesSafely W.meaning self.old self.new }
         ensures reason { EndsLast done → SiteKeepsReason self.old self.new }
+        ensures noting { NotesDone self.old.graph.now self.old.account.now done → SiteStaysNoting self.old self.new }
     {
         tell(self.graph, &mut self.run.plan, self.account, self.err, done);
         halt(self.graph, &mut self.run.plan, self.account);
@@ -116,6 +121,9 @@ impl<W: World, O: Sink, E: Sink> Site<'_, '_, W, O, E> {
         ensures sound { IsSound W.meaning self.new }
         ensures reason { SiteKeepsReason self.old self.new }
         ensures last { EndsLast result }
+        ensures noted { SiteKeepsNoted self.old self.new }
+        ensures fails { NotesDone self.new.graph.now self.new.account.now result }
+        ensures plan { self.new.run.now.plan ≡ self.old.run.now.plan }
     {
         match wanted {
             Want::Scan(rule, file) => self.scan(rule, file),
@@ -134,6 +142,8 @@ impl<W: World, O: Sink, E: Sink> Site<'_, '_, W, O, E> {
         ensures safe { SiteGoesSafely W.meaning self.old self.new }
         ensures reason { SiteKeepsReason self.old self.new }
         ensures last { EndsLast result }
+        ensures noted { SiteKeepsNoted self.old self.new }
+        ensures plan { self.new.run.now.plan ≡ self.old.run.now.plan }
     {
         let found = self.run.inputs.scanned(self.world, self.graph, rule, file)?;
         self.graph.laws();
@@ -188,6 +198,7 @@ fn tell<E: Sink>(
     ensures memory { done ≡ Err ListEnd.Memory → account.new.memory ≡ true }
     ensures stays { plan.old.halted ≡ true → plan.new.halted ≡ true }
     ensures reason { EndsLast done → StaysReasoned account.old account.new }
+    ensures noted { KeepsNoted account.old account.new }
 {
     match done {
         Ok(event) => step(graph, plan, account, event),
@@ -200,6 +211,7 @@ fn step(graph: &Graph, plan: &mut Plan, account: &mut Account, event: PlanEvent)
     ensures steps { StepsOr graph.now plan.old event plan.new account.old account.new }
     ensures stays { plan.old.halted ≡ true → plan.new.halted ≡ true }
     ensures reason { StaysReasoned account.old account.new }
+    ensures noted { KeepsNoted account.old account.new }
 {
     match plan.step(graph, event) {
         Ok(()) => {}

@@ -12,6 +12,10 @@ use Rattle.build_run.proofs.Starting.{end_of_turn, ended_looked}
 use Rattle.build_run.proofs.Reasons.{last_exit, last_inside}
 use Rattle.build_run.proofs.site.Site.decide.Goals as goal
 
+pub returns-in_ok-missing-in-Lacks-clause-fails : goal.returns-in_ok-missing-in-Lacks-clause-fails
+returns-in_ok-missing-in-Lacks-clause-fails g c =
+    let f = c.in_ok-missing-in-Lacks.ensures.of in c.fail.ensures.notes c.args.self.now.graph.now f.path f.named f.of
+
 pub returns-in_err-now-clause-ends : goal.returns-in_err-now-clause-ends
 returns-in_err-now-clause-ends g c = λ start a.
     let before = ledger_of c.args.self.now.account.now in

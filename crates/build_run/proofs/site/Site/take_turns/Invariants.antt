@@ -1,4 +1,5 @@
 use Rattle.build_run.specs.Along.{StaysAlong}
+use Rattle.build_run.specs.Noted.{SiteStaysNoting}
 use Rattle.build_run.specs.Reasons.{SiteKeepsReason}
 use Rattle.build_run.specs.Safe.{TurnsSafely}
 use Rattle.build_run.specs.Sites.{IsSound, SiteAccounts, SitePasses}
@@ -14,4 +15,5 @@ invariant-loop-turn g l =
       along : StaysAlong m l.fn.self l.self;
       safe : TurnsSafely m l.fn.self l.self;
       reason : SiteKeepsReason l.fn.self l.self;
+      noting : SiteStaysNoting l.fn.self l.self;
     }

@@ -1,3 +1,4 @@
+use Rattle.build_run.proofs.Noting.{noting_on}
 use Rattle.std.proofs.Common.{◌∙◌, List, ap, arith, length, refl, rules}
 use Rattle.std.specs.Prelude.{Ok}
 use Rattle.task_plan.specs.Plans.{Planned}
@@ -28,6 +29,7 @@ loop-turn-preserved g c =
       sound = tell.sound ending.sound;
       safe = site_safely_on m _ _ _ tell.passes.passes.told (site_safely_on m _ _ _ ending.passes.passes.told before.safe ending.safe) tell.safe;
       reason = λ r. tell.reason tt (ending.reason (before.reason r));
+      noting = λ n. tell.noting ending.fails (noting_on c.loop-turn.self c.take_ending-event.new.self ending.halted ending.noted (before.noting n));
       same = λ e. absurd (omega (arith, e));
       halted = λ e. tell.halted (ap (λ (p : Planned). p.halted) ending.halted ∙ before.halted e);
       along = λ e. along_on m _ _ _ told.passes.told (before.along e)
@@ -43,6 +45,7 @@ loop-turn-init g c = record {
   sound = search rules;
   safe = site_rests g.W.Disk.meaning g.met.W.Disk.only_now c.args.self.now c.args.self.now refl refl refl refl (λ unshut. unshut);
   reason = λ r. r;
+  noting = λ n. n;
   same = search rules;
   halted = search rules;
   along = search rules;
