@@ -15,10 +15,11 @@ use Rattle.build_files.specs.Causes.{HasLookCause, HasEndCause, IsInside, IsQuie
 use Rattle.build_files.specs.Causes.{HasFaultCause as HasLookFault}
 use Rattle.build_files.specs.declared.end.ListEnd.{ListEnd}
 use Rattle.build_files.specs.declared.end.ListEnd.TheVariants as end
-use Rattle.build_run.specs.Causes.{Outside, outside, IsLater, HasCause, HasPrintEnd, HasStartCause, HasStartEnd, IsInner, IsTreeFault, IsStartFault, IsActionFault, IsUnstarted, HasAny, AreTold, AreCaused}
+use Rattle.build_run.specs.Causes.{Outside, outside, IsLater, HasCause, HasPrintEnd, HasStartCause, HasStartEnd, IsInner, IsTreeFault, IsStartFault, IsActionFault, IsUnstarted, HasAny, AreCounted, AreTold, AreCaused}
 use Rattle.world_api.specs.Printed.{SinkMeaning}
 use Rattle.build_run.specs.Ledgers.{Ledger, Accounted, Reports, blank, ledger_of, with_fault, wanting, with_shut, with_end, with_done, with_outcome}
 use Rattle.build_run.specs.declared.account.Account.{Account}
+use Rattle.build_run.proofs.Counting.{counted_none, counted_on, counted_more, counted_fewer, counted_one, counted_store}
 
 rose_on : (a b c : ℕ) → Rose a b → b ≤ c → Rose a c
 rose_on a b c r le = let up = r.later in let more = r.more in record { later = omega (arith, up, le); more = omega (arith, more, le) }
@@ -115,6 +116,7 @@ added : (start old new : Outside) (ledger : Ledger) (f : BuildFault) → HasCaus
 added start old new ledger f cause m a = record {
   later = later_on start old new a.later m.later;
   each = All-push (HasCause start new) ledger.faults f (each_on start old new ledger.faults m.later a.each) (cause_from start old new a.later f cause);
+  counted = counted_more start old new ledger.faults (f ∷ []) a.counted (counted_one old new m.later f cause);
   told = λ is. told_on start old new (ledger.faults ++ f ∷ []) (told_more start old ledger.faults f (a.told is)) m;
   shut = λ is. rose_on _ _ _ (a.shut is) m.later.counts.disk;
 }
@@ -169,6 +171,7 @@ module _ (start : Outside) (ledger : Ledger) where
   wanting_on old new p a = record {
     later = later_on start old new a.later p;
     each = each_on start old new ledger.faults p a.each;
+    counted = counted_on start old new ledger.faults p a.counted;
     told = λ is. absurd (false≢true (sym is));
     shut = λ is. rose_on _ _ _ (a.shut is) p.counts.disk;
   }
@@ -181,6 +184,7 @@ module _ (start : Outside) (ledger : Ledger) where
   dropped now f a = record {
     later = a.later;
     each = front_of (HasCause start now) ledger.faults f a.each;
+    counted = counted_fewer start now ledger.faults (f ∷ []) a.counted;
     told = λ is. absurd (false≢true (sym is));
     shut = a.shut;
   }
@@ -226,13 +230,14 @@ module _ (start : Outside) (ledger : Ledger) where
         out = inl refl;
         err = inl refl;
       }) a in
-      record { later = more.later; each = more.each; told = more.told; shut = λ is. rose_from _ _ _ a.later.counts.disk f.rose }
+      record { later = more.later; each = more.each; counted = more.counted; told = more.told; shut = λ is. rose_from _ _ _ a.later.counts.disk f.rose }
 
   -- the disk has refused before
   pub shut_fault : (now : Outside) → ledger.shut ≡ true → Accounted start now ledger → Accounted start now (with_fault ledger fault.StoreFault)
   shut_fault now is a = record {
     later = a.later;
     each = All-push (HasCause start now) ledger.faults fault.StoreFault a.each (a.shut is);
+    counted = counted_more start now now ledger.faults (fault.StoreFault ∷ []) a.counted (counted_store now now (later_here now));
     told = λ m. told_more start now ledger.faults fault.StoreFault (a.told m);
     shut = a.shut;
   }
@@ -366,6 +371,7 @@ pub at_first : (start : Outside) → Accounted start start blank
 at_first start = record {
   later = later_here start;
   each = All-nil (HasCause start start);
+  counted = counted_none start;
   told = λ is. record { disk = λ ne. absurd (ne refl); tree = λ ne. absurd (ne refl); start = λ ne. absurd (ne refl); action = λ ne. absurd (ne refl); out = λ ne. absurd (ne refl); err = λ ne. absurd (ne refl) };
   shut = λ is. absurd (false≢true is);
 }
@@ -392,9 +398,10 @@ pub ended : (start now : Outside) (ledger : Ledger) (faults : List BuildFault) (
 ended start now ledger faults memory same said a = record {
   later = a.later;
   each = subst (λ fs. All (HasCause start now) fs) (sym same) a.each;
+  counted = subst (λ fs. AreCounted start now fs) (sym same) a.counted;
   told = λ is. subst (λ fs. AreTold start now fs) (sym same) (a.told (sym said ∙ is));
   shut = λ is. absurd (false≢true is);
 }
 
 pub caused : (start now : Outside) (ledger : Ledger) → Accounted start now ledger → AreCaused start now ledger.faults ledger.memory
-caused start now ledger a = record { later = a.later; each = a.each; told = a.told }
+caused start now ledger a = record { later = a.later; each = a.each; counted = a.counted; told = a.told }

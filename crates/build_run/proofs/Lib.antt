@@ -5,6 +5,7 @@ mod Alongs
 mod Clearing
 pub mod Holding
 pub mod Goings
+pub mod Counting
 pub mod Causing
 pub mod Outs
 pub mod Sites
@@ -19,6 +20,8 @@ mod Launching
 mod Leaving
 mod Outsetting
 mod Finishing
+pub mod Noting
+mod Skipping
 mod Builds
 mod Safely
 mod Stopping

@@ -63,7 +63,7 @@ take_inside a b (Err e) same is = subst (λ (x : Counts). HasTakeEnd a x e) (sym
 pub take_accounted : (start : Outside) (old new : Counts) (out err : ℕ) (e : ListEnd) → HasTakeEnd old new e → Accounted start (outside old out err) blank → Accounted start (outside new out err) (with_end blank e)
 take_accounted start old new out err (end.Fault fault.StoreFault) h a =
     let shut = disk_fault start blank old new out err h a in
-    record { later = shut.later; each = shut.each; told = shut.told; shut = λ is. absurd (false≢true is) }
+    record { later = shut.later; each = shut.each; counted = shut.counted; told = shut.told; shut = λ is. absurd (false≢true is) }
 take_accounted start old new out err (end.Fault (fault.Missing node target)) h a = look_end start blank old new out err (end.Fault (fault.Missing node target)) h a
 take_accounted start old new out err (end.Fault (fault.Cycle paths)) h a = look_end start blank old new out err (end.Fault (fault.Cycle paths)) h a
 take_accounted start old new out err (end.Fault (fault.ActionFailed target code)) h a = look_end start blank old new out err (end.Fault (fault.ActionFailed target code)) h a

@@ -1,5 +1,6 @@
 -- Why a build has the faults that it reports: each tells what was at fault outside, and what was at fault is told.
-use Rattle.std.specs.Prelude.{◌≡◌, ◌≢◌, ◌≤◌, ◌⊎◌, Bool, false, ℕ, List, All, Contains, Result, Ok, Err}
+use Rattle.std.specs.Prelude.{◌≡◌, ◌≢◌, ◌≤◌, ◌+◌, ◌⊎◌, Bool, false, ℕ, List, All, Contains, Result, Ok, Err}
+use Rattle.std.specs.List.{count_by}
 use Rattle.world_api.specs.Causes.{Later, StartFails}
 use Rattle.scons_base.specs.Rising.{Rose}
 use Rattle.world_api.specs.Counts.{Counts}
@@ -9,6 +10,8 @@ use Rattle.rule_graph.specs.declared.build_fault.BuildFault.{BuildFault}
 use Rattle.rule_graph.specs.declared.build_fault.BuildFault.TheVariants as fault
 use Rattle.build_files.specs.declared.end.ListEnd.{ListEnd}
 use Rattle.build_files.specs.declared.end.ListEnd.TheVariants as end
+use Rattle.build_run.specs.declared.end.BuildEnd.{BuildEnd}
+use Rattle.build_run.specs.Counting.{RoseBy, is_action_fault, is_start_fault, is_tree_fault, is_out_fault}
 
 -- how often the world, standard output and standard error were at fault
 pub record Outside : Type 0 where
@@ -66,16 +69,30 @@ pub record AreTold (old new : Outside) (faults : List BuildFault) : Type 0 where
   pub out : new.out ≢ old.out → Contains faults fault.OutFault
   pub err : new.err ≢ old.err → Contains faults fault.OutFault
 
--- no count fell, each fault has its cause, and, unless memory was wanting, each count that changed its fault
+-- Failed actions, jobs that couldn't be started, and faults of the file tree stand among these no more often than their counts
+-- rose; a fault of a sink no more often than the counts of both sinks did.
+pub record AreCounted (old new : Outside) (faults : List BuildFault) : Type 0 where
+  pub action : RoseBy (count_by is_action_fault faults) old.counts.action_failures new.counts.action_failures
+  pub start : RoseBy (count_by is_start_fault faults) old.counts.start_faults new.counts.start_faults
+  pub tree : RoseBy (count_by is_tree_fault faults) old.counts.tree_faults new.counts.tree_faults
+  pub of_out : ℕ
+  pub of_err : ℕ
+  pub sinks : count_by is_out_fault faults ≡ of_out + of_err
+  pub out : RoseBy of_out old.out new.out
+  pub err : RoseBy of_err old.err new.err
+
+-- No count fell, each fault has its cause, there are no more of a kind than its count rose by, and, unless memory was wanting,
+-- each count that changed has its fault.
 pub record AreCaused (old new : Outside) (faults : List BuildFault) (memory : Bool) : Type 0 where
   pub later : IsLater old new
   pub each : All (HasCause old new) faults
+  pub counted : AreCounted old new faults
   pub told : memory ≡ false → AreTold old new faults
 
 -- the same of a build over a world and two sinks
-abbrev pub BuildCauses : {W O E : Type 0} → Meaning W → SinkMeaning O → SinkMeaning E → W → O → E → W → O → E → List BuildFault → Bool → Type 0
-BuildCauses m o e world out err new_world new_out new_err faults memory =
-    AreCaused (outside (m.counts world) (o.faults out) (e.faults err)) (outside (m.counts new_world) (o.faults new_out) (e.faults new_err)) faults memory
+abbrev pub BuildCauses : {W O E : Type 0} → Meaning W → SinkMeaning O → SinkMeaning E → W → O → E → W → O → E → BuildEnd → Type 0
+BuildCauses m o e world out err new_world new_out new_err answer =
+    AreCaused (outside (m.counts world) (o.faults out) (e.faults err)) (outside (m.counts new_world) (o.faults new_out) (e.faults new_err)) answer.faults answer.memory
 
 -- a print was refused: standard output was at fault
 abbrev pub HasPrintEnd : ℕ → ℕ → ListEnd → Type 0

@@ -10,7 +10,7 @@ use Rattle.rule_graph.specs.declared.build_fault.BuildFault.{BuildFault}
 use Rattle.rule_graph.specs.declared.build_fault.BuildFault.TheVariants as fault
 use Rattle.build_files.specs.declared.end.ListEnd.{ListEnd}
 use Rattle.build_files.specs.declared.end.ListEnd.TheVariants as end
-use Rattle.build_run.specs.Causes.{Outside, outside, IsLater, HasCause, AreTold}
+use Rattle.build_run.specs.Causes.{Outside, outside, IsLater, HasCause, AreCounted, AreTold}
 use Rattle.build_run.specs.declared.account.Account.{Account}
 use Rattle.build_run.specs.declared.end.BuildEnd.{BuildEnd}
 
@@ -55,11 +55,12 @@ with_outcome ledger target outcome.NoMemory = wanting ledger
 abbrev pub with_shut : Ledger → Ledger
 with_shut ledger = record { faults = ledger.faults ++ fault.StoreFault ∷ []; shut = true; memory = ledger.memory }
 
--- since a start no count fell, each fault has its cause, and so has it that the store isn't called any more; unless memory
--- was wanting each count that changed is told
+-- since a start no count fell, each fault has its cause, of none there are more than its count rose by, and it has its cause that
+-- the store isn't called any more; unless memory was wanting each count that changed is told
 pub record Accounted (start now : Outside) (ledger : Ledger) : Type 0 where
   pub later : IsLater start now
   pub each : All (HasCause start now) ledger.faults
+  pub counted : AreCounted start now ledger.faults
   pub told : ledger.memory ≡ false → AreTold start now ledger.faults
   pub shut : ledger.shut ≡ true → Rose start.counts.disk_faults now.counts.disk_faults
 

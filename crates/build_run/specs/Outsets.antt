@@ -178,3 +178,10 @@ BuildRuns m w map old new behind answer =
 abbrev pub BuildSucceeds : {W : Type 0} → Meaning W → Wanted → Map → W → W → Map → BuildEnd → Type 0
 BuildSucceeds m w map old new behind answer = answer.faults ≡ [] → answer.memory ≡ false → m.tells new → m.sure new →
     are_below (length w.graph.nodes) w.requested ≡ true → HasSucceeded m w map old new behind
+
+-- the same by the store from before and the one behind
+abbrev pub RunsOver : {W : Type 0} → Meaning W → Wanted → Store → W → Store → W → BuildEnd → Type 0
+RunsOver m w store old new_store new answer = BuildRuns m w (map_of store) old new (map_of new_store) answer
+
+abbrev pub SucceedsOver : {W : Type 0} → Meaning W → Wanted → Store → W → Store → W → BuildEnd → Type 0
+SucceedsOver m w store old new_store new answer = BuildSucceeds m w (map_of store) old new (map_of new_store) answer

@@ -13,6 +13,7 @@ pub mod Beginning
 pub mod Growth
 pub mod Scanning
 pub mod Resting
+pub mod Holding
 pub mod Running
 pub mod Wanting
 mod SampleSteps

@@ -32,7 +32,7 @@ lacking_done (there {y = Ended x well} m) = there (lacking_done m)
 lacking_done (there {y = Lacks x q} m) = there (lacking_done m)
 lacking_done (there {y = Halts} m) = lacking_done m
 
-faulty_done : {r : Rule} {past : List Step} → IsFaulty past r → Among r (done past)
+pub faulty_done : {r : Rule} {past : List Step} → IsFaulty past r → Among r (done past)
 faulty_done (has_failed m) = failed_done m
 faulty_done (lacks_one p m) = lacking_done m
 

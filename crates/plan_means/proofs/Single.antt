@@ -53,7 +53,7 @@ module _ (b : Begun) (g : RuleGraph) (now : IsGraphNow b g) where
       first_stands n targets = there_any (λ (m : NodeId). nat_eq n.0 m.0) (let m : Among n (n ∷ targets) = here in m)
           ((Decides-eqb n.0 n.0).1 refl)
 
-  target_of : (of : declared.Rule) (number : ℕ) (node : NodeId) → slice_get g.rules number ≡ Some of →
+  pub target_of : (of : declared.Rule) (number : ℕ) (node : NodeId) → slice_get g.rules number ≡ Some of →
       stands of.targets node ≡ true → rule_of g.rules node.0 ≡ Some number
   target_of of number node at h =
       now.reading.single number node.0 of at

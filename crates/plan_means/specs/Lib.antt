@@ -9,3 +9,4 @@ pub mod Growth
 pub mod Scanning
 pub mod Examples
 pub mod Resting
+pub mod Holding

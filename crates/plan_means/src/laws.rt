@@ -3,6 +3,7 @@ ghost use Rattle.plan_means.specs.Names.{NamesAreThese, CopiesAreThese};
 ghost use Rattle.plan_means.specs.Lists.{ListsAreReach};
 ghost use Rattle.plan_means.specs.Deciding.{DecidedMayBe, FirstIsTaken, InOrderIsTaken};
 ghost use Rattle.plan_means.specs.Resting.{StillIsIdle, StillIsAtRest};
+ghost use Rattle.plan_means.specs.Holding.{CyclesNeedThemselves, HeldNeedFaults, NeedyAreHeld};
 ghost use Rattle.plan_means.specs.Stepping.{EventsKeepTies, RunningAreKnown, ChangesKeepTies};
 ghost use Rattle.plan_means.specs.Beginning.{LoadedIsTied};
 ghost use Rattle.plan_means.specs.Growth.{GrowthKeepsTies};
@@ -52,6 +53,21 @@ pub fn still_is_idle()
 /// And where no rule runs it is at rest.
 pub fn still_is_at_rest()
     ensures { StillIsAtRest }
+{}
+
+/// A rule that one at fault holds by a tied plan needs that one, and neither began nor is done.
+pub fn held_need_faults()
+    ensures { HeldNeedFaults }
+{}
+
+/// Rules that wait for themselves by it need themselves.
+pub fn cycles_need_themselves()
+    ensures { CyclesNeedThemselves }
+{}
+
+/// At rest each rule that needs one at fault is held.
+pub fn needy_are_held()
+    ensures { NeedyAreHeld }
 {}
 
 /// Through each event that is no scan a plan stays tied, to the steps with the one that the event tells of.

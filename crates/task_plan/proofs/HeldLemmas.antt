@@ -18,9 +18,10 @@ use Rattle.task_plan.specs.Admits.{queues}
 use Rattle.task_plan.specs.Orders.{is_among}
 use Rattle.task_plan.specs.Walks.{is_seen}
 use Rattle.task_plan.specs.Watched.{targets_at}
-use Rattle.task_plan.specs.Held.{WaitsOn, IsHeldBy, AreHeld, firsts, HasAllHeld, HasEachOnce, IsFirstFault, HaveFirstFaults}
-use Rattle.task_plan.specs.Holding.{IsFollowed, Finds, IsBlankHeld, AreAllSeen, WalksTo}
+use Rattle.task_plan.specs.Held.{waits_for, WaitsOn, IsHeldBy, AreHeld, firsts, HasAllHeld, HasEachOnce, IsFirstFault, HaveFirstFaults}
+use Rattle.task_plan.specs.Holding.{IsToldOf, IsWaiter, IsFollowed, Finds, IsBlankHeld, AreAllSeen, WalksTo}
 use Rattle.task_plan.specs.declared.held.Held.{Held}
+use Rattle.task_plan.specs.declared.states.RuleState.{RuleState}
 use Rattle.task_plan.proofs.MarkLemmas.{apart}
 use Rattle.task_plan.proofs.PlanLemmas.{true_false}
 use Rattle.task_plan.proofs.ListLemmas.{get-front, get-last, none_past}
@@ -208,21 +209,32 @@ each_next P Q xs i d f g q n x lt e = by (apart n i)
     by (inl same) = subst Q (get_or_from_slice_get xs i x d (ap (slice_get xs) (sym same) ∙ e)) q
     by (inr ne) = g x (f n x (omega arith) e)
 
--- one more of these rules was added
-pub added_next : (rules : List RuleId) (i : ℕ) (d fault : RuleId) (seen now later : List Bool) (pairs found more : List (RuleId × RuleId)) → i < length rules → Finds (λ r. queues rules r ≡ true) fault seen pairs now found
-    → Finds (λ r. r ≡ (get_or rules i d).0) fault now found later more → Finds (λ r. queues rules r ≡ true) fault seen pairs later more
-added_next rules i d fault seen now later pairs found more lt f g =
-    let this = among_by rules i (get_or rules i d) (slice_get-get_or rules i d lt) in
-    finds_then (λ r. queues rules r ≡ true) fault seen pairs now found later more f
-    (finds_as (λ r. r ≡ (get_or rules i d).0) fault now found (λ r. queues rules r ≡ true) (λ x e un. ap (queues rules) e ∙ this) later more g)
+-- one more of the rules that are told of a file was added where it waits
+module _ (states : List RuleState) (rules : List Kept) (told : List RuleId) (file : NodeId) where
+  pub added_next : (i : ℕ) (d fault : RuleId) (seen now later : List Bool) (pairs found more : List (RuleId × RuleId)) → i < length told → Finds (IsToldOf states rules told file) fault seen pairs now found
+      → Finds (IsWaiter states rules file (get_or told i d).0) fault now found later more → Finds (IsToldOf states rules told file) fault seen pairs later more
+  added_next i d fault seen now later pairs found more lt f g =
+      let this = among_by told i (get_or told i d) (slice_get-get_or told i d lt) in
+      finds_then (IsToldOf states rules told file) fault seen pairs now found later more f
+      (finds_as (IsWaiter states rules file (get_or told i d).0) fault now found (IsToldOf states rules told file)
+      (λ x w un. record { stands = ap (queues told) w.is ∙ this; waits = ap (λ y. waits_for states rules y file) w.is ∙ w.waits }) later more g)
 
-pub all_added : (rules : List RuleId) (i : ℕ) (seen : List Bool) → length rules ≤ i → ((n : ℕ) (r : RuleId) → n < i → slice_get rules n ≡ Some r → is_seen seen r.0 ≡ true) → (x : ℕ) → queues rules x ≡ true
-    → is_seen seen x ≡ true
-all_added rules i seen le f x h =
-    let r : RuleId = record { 0 = x } in
-    let p = place_in rules r h in
-    let lt = slice_get_within rules p.0 r p.1 in
-    f p.0 r (omega arith) p.1
+  pub all_added : (i : ℕ) (seen : List Bool) → length told ≤ i → ((n : ℕ) (r : RuleId) → n < i → slice_get told n ≡ Some r → waits_for states rules r.0 file ≡ true → is_seen seen r.0 ≡ true) → (x : ℕ) → IsToldOf states rules told file x
+      → is_seen seen x ≡ true
+  all_added i seen le f x h =
+      let r : RuleId = record { 0 = x } in
+      let p = place_in told r h.stands in
+      let lt = slice_get_within told p.0 r p.1 in
+      f p.0 r (omega arith) p.1 h.waits
+
+-- none is added where it doesn't
+module _ (states : List RuleState) (rules : List Kept) (file : NodeId) where
+  pub no_waiter : (fault rule : RuleId) (seen : List Bool) (pairs : List (RuleId × RuleId)) → Finds (IsWaiter states rules file rule.0) fault seen pairs seen pairs
+  no_waiter fault rule seen pairs = Finds.nothing
+
+  pub one_waiter : (fault rule : RuleId) (seen later : List Bool) (pairs more : List (RuleId × RuleId)) → waits_for states rules rule.0 file ≡ true → Finds (λ r. r ≡ rule.0) fault seen pairs later more
+      → Finds (IsWaiter states rules file rule.0) fault seen pairs later more
+  one_waiter fault rule seen later pairs more w f = finds_as (λ r. r ≡ rule.0) fault seen pairs (IsWaiter states rules file rule.0) (λ x e un. record { is = e; waits = w }) later more f
 
 -- of so many rules the first so many of those at fault were seen
 blank_by : (met : List RuleId) (rule : RuleId) (seen : List Bool) (x : ℕ) → is_seen seen x ≡ is_among x met → (x ≡ rule.0) ⊎ (x ≢ rule.0) → is_seen (set seen rule.0 true) x ≡ (is_among x met || (nat_eq rule.0 x || false))
@@ -268,28 +280,29 @@ no_pair_at pairs place e = none_past pairs place (by (slice_get pairs place) e)
     by None h = refl
     by (Some pair) h = absurd (none-some pair.0 h)
 
-module _ (rules : List Kept) (waiters : List (List RuleId)) where
-  pub followed_still : (seen later : List Bool) (other : ℕ) → ((x : ℕ) → is_seen seen x ≡ true → is_seen later x ≡ true) → IsFollowed rules waiters seen other → IsFollowed rules waiters later other
+module _ (states : List RuleState) (rules : List Kept) (waiters : List (List RuleId)) where
+  pub followed_still : (seen later : List Bool) (other : ℕ) → ((x : ℕ) → is_seen seen x ≡ true → is_seen later x ≡ true) → IsFollowed states rules waiters seen other → IsFollowed states rules waiters later other
   followed_still seen later other f i = record { all = λ rule w. f rule (i.all rule w) }
 
   -- one more target of a rule was gone over
   pub waiting_next : (rule : ℕ) (targets : List NodeId) (i : ℕ) (d : NodeId) (fault : RuleId) (seen now later : List Bool) (pairs found more : List (RuleId × RuleId)) → targets ≡ targets_at rules rule → i < length targets
-      → Finds (λ r. WaitsOn rules waiters r rule) fault seen pairs now found → Finds (λ r. queues (waiters_of waiters (get_or targets i d).0) r ≡ true) fault now found later more
-      → Finds (λ r. WaitsOn rules waiters r rule) fault seen pairs later more
+      → Finds (λ r. WaitsOn states rules waiters r rule) fault seen pairs now found → Finds (IsToldOf states rules (waiters_of waiters (get_or targets i d).0) (get_or targets i d)) fault now found later more
+      → Finds (λ r. WaitsOn states rules waiters r rule) fault seen pairs later more
   waiting_next rule targets i d fault seen now later pairs found more e lt f g =
       let target = get_or targets i d in
       let made : stands (targets_at rules rule) target ≡ true = ap (λ xs. stands xs target) (sym e) ∙ stands_there targets i target (slice_get-get_or targets i d lt) in
-      finds_then (λ r. WaitsOn rules waiters r rule) fault seen pairs now found later more f
-      (finds_as (λ r. queues (waiters_of waiters target.0) r ≡ true) fault now found (λ r. WaitsOn rules waiters r rule) (λ x h un. record { target = target; made = made; told = h }) later more g)
+      finds_then (λ r. WaitsOn states rules waiters r rule) fault seen pairs now found later more f
+      (finds_as (IsToldOf states rules (waiters_of waiters target.0) target) fault now found (λ r. WaitsOn states rules waiters r rule)
+      (λ x h un. record { target = target; made = made; told = h.stands; needs = h.waits }) later more g)
 
   -- all were
   pub all_waiting : (rule : ℕ) (targets : List NodeId) (i : ℕ) (seen : List Bool) → targets ≡ targets_at rules rule → length targets ≤ i
-      → ((n : ℕ) (target : NodeId) → n < i → slice_get targets n ≡ Some target → (x : ℕ) → queues (waiters_of waiters target.0) x ≡ true → is_seen seen x ≡ true) → IsFollowed rules waiters seen rule
+      → ((n : ℕ) (target : NodeId) → n < i → slice_get targets n ≡ Some target → (x : ℕ) → IsToldOf states rules (waiters_of waiters target.0) target x → is_seen seen x ≡ true) → IsFollowed states rules waiters seen rule
   all_waiting rule targets i seen e le f = record {
     all = λ x w.
         let p = place_of_stands targets w.target (ap (λ xs. stands xs w.target) e ∙ w.made) in
         let lt = slice_get_within targets p.0 w.target p.1 in
-        f p.0 w.target (omega arith) p.1 x w.told;
+        f p.0 w.target (omega arith) p.1 x (record { stands = w.told; waits = w.needs });
   }
 
   -- a rule that wasn't seen isn't at fault, and has a place
@@ -301,50 +314,50 @@ module _ (rules : List Kept) (waiters : List (List RuleId)) where
 
   module _ (fault : RuleId) (old : Held) where
     -- whatever waits for the rule at fault was found
-    pub walk_first : (new : Held) (place : ℕ) → place ≤ length old.pairs.items → Finds (λ r. WaitsOn rules waiters r fault.0) fault old.seen.items old.pairs.items new.seen.items new.pairs.items → IsFollowed rules waiters new.seen.items fault.0
-        → WalksTo rules waiters fault old new place
+    pub walk_first : (new : Held) (place : ℕ) → place ≤ length old.pairs.items → Finds (λ r. WaitsOn states rules waiters r fault.0) fault old.seen.items old.pairs.items new.seen.items new.pairs.items → IsFollowed states rules waiters new.seen.items fault.0
+        → WalksTo states rules waiters fault old new place
     walk_first new place most f i = record {
       finds = λ faulty s.
-          finds_as (λ r. WaitsOn rules waiters r fault.0) fault old.seen.items old.pairs.items (IsHeldBy rules waiters faulty fault.0)
+          finds_as (λ r. WaitsOn states rules waiters r fault.0) fault old.seen.items old.pairs.items (IsHeldBy states rules waiters faulty fault.0)
           (λ x w h. IsHeldBy.directly (unseen_free faulty old.seen.items s x h) (unseen_known faulty old.seen.items s x h) w) new.seen.items new.pairs.items f;
       first = i;
       others = λ n pair le lt e. absurd (omega arith);
     }
 
     -- and whatever waits for the next rule that was found
-    module _ (now new : Held) (place : ℕ) (pair : RuleId × RuleId) (w : WalksTo rules waiters fault old now place) (le : length old.pairs.items ≤ place) (at : slice_get now.pairs.items place ≡ Some pair)
-        (f : Finds (λ r. WaitsOn rules waiters r pair.0.0) fault now.seen.items now.pairs.items new.seen.items new.pairs.items) (i : IsFollowed rules waiters new.seen.items pair.0.0) where
+    module _ (now new : Held) (place : ℕ) (pair : RuleId × RuleId) (w : WalksTo states rules waiters fault old now place) (le : length old.pairs.items ≤ place) (at : slice_get now.pairs.items place ≡ Some pair)
+        (f : Finds (λ r. WaitsOn states rules waiters r pair.0.0) fault now.seen.items now.pairs.items new.seen.items new.pairs.items) (i : IsFollowed states rules waiters new.seen.items pair.0.0) where
       still : (x : ℕ) → is_seen now.seen.items x ≡ true → is_seen new.seen.items x ≡ true
-      still x h = seen_still (λ r. WaitsOn rules waiters r pair.0.0) fault now.seen.items now.pairs.items new.seen.items new.pairs.items f x h
+      still x h = seen_still (λ r. WaitsOn states rules waiters r pair.0.0) fault now.seen.items now.pairs.items new.seen.items new.pairs.items f x h
 
-      finds_next : (faulty : List RuleId) → AreAllSeen rules faulty old.seen.items → Finds (IsHeldBy rules waiters faulty fault.0) fault old.seen.items old.pairs.items new.seen.items new.pairs.items
+      finds_next : (faulty : List RuleId) → AreAllSeen rules faulty old.seen.items → Finds (IsHeldBy states rules waiters faulty fault.0) fault old.seen.items old.pairs.items new.seen.items new.pairs.items
       finds_next faulty s =
-          let Kind = IsHeldBy rules waiters faulty fault.0 in
+          let Kind = IsHeldBy states rules waiters faulty fault.0 in
           let g = w.finds faulty s in
           let before = unseen_before Kind fault old.seen.items old.pairs.items now.seen.items now.pairs.items g in
           let held = found_kind Kind fault old.seen.items old.pairs.items now.seen.items now.pairs.items g place pair le at in
           finds_then Kind fault old.seen.items old.pairs.items now.seen.items now.pairs.items new.seen.items new.pairs.items g
-          (finds_as (λ r. WaitsOn rules waiters r pair.0.0) fault now.seen.items now.pairs.items Kind
+          (finds_as (λ r. WaitsOn states rules waiters r pair.0.0) fault now.seen.items now.pairs.items Kind
           (λ x v h. IsHeldBy.in_turn pair.0.0 (unseen_free faulty old.seen.items s x (before x h)) (unseen_known faulty old.seen.items s x (before x h)) v held) new.seen.items new.pairs.items f)
 
-      others_next : (n : ℕ) (other : RuleId × RuleId) → length old.pairs.items ≤ n → n < place + 1 → slice_get now.pairs.items n ≡ Some other → (n ≡ place) ⊎ (n ≢ place) → IsFollowed rules waiters new.seen.items other.0.0
+      others_next : (n : ℕ) (other : RuleId × RuleId) → length old.pairs.items ≤ n → n < place + 1 → slice_get now.pairs.items n ≡ Some other → (n ≡ place) ⊎ (n ≢ place) → IsFollowed states rules waiters new.seen.items other.0.0
       others_next n other lo hi e (inl same) =
           let this : pair ≡ other = same_Some pair other (sym at ∙ ap (slice_get now.pairs.items) (sym same) ∙ e) in
-          subst (λ (x : RuleId × RuleId). IsFollowed rules waiters new.seen.items x.0.0) this i
+          subst (λ (x : RuleId × RuleId). IsFollowed states rules waiters new.seen.items x.0.0) this i
       others_next n other lo hi e (inr ne) = followed_still now.seen.items new.seen.items other.0.0 still (w.others n other lo (omega arith) e)
 
-      pub walk_next : WalksTo rules waiters fault old new (place + 1)
+      pub walk_next : WalksTo states rules waiters fault old new (place + 1)
       walk_next = record {
         finds = finds_next;
         first = followed_still now.seen.items new.seen.items fault.0 still w.first;
         others = λ n other lo hi e.
             let within = slice_get_within now.pairs.items place pair at in
-            let back = found_back (λ r. WaitsOn rules waiters r pair.0.0) fault now.seen.items now.pairs.items new.seen.items new.pairs.items f n other (omega arith) e in
+            let back = found_back (λ r. WaitsOn states rules waiters r pair.0.0) fault now.seen.items now.pairs.items new.seen.items new.pairs.items f n other (omega arith) e in
             others_next n other lo hi back (apart n place);
       }
 
     -- no rule is left
-    pub walk_end : (now : Held) (place : ℕ) → WalksTo rules waiters fault old now place → length now.pairs.items ≤ place → WalksTo rules waiters fault old now (length now.pairs.items)
+    pub walk_end : (now : Held) (place : ℕ) → WalksTo states rules waiters fault old now place → length now.pairs.items ≤ place → WalksTo states rules waiters fault old now (length now.pairs.items)
     walk_end now place w le = record { finds = w.finds; first = w.first; others = λ n pair lo hi e. w.others n pair lo (omega arith) e }
 
   module _ (faulty : List RuleId) where
@@ -352,11 +365,11 @@ module _ (rules : List Kept) (waiters : List (List RuleId)) where
     pub record AreFound (seen : List Bool) (pairs : List (RuleId × RuleId)) : Type 0 where
       pub size : length seen ≡ length rules
       pub same : (rule : ℕ) → rule < length rules → is_seen seen rule ≡ (is_among rule faulty || is_among rule (firsts pairs))
-      pub held : AreHeld rules waiters faulty pairs
+      pub held : AreHeld states rules waiters faulty pairs
       pub once : HasEachOnce pairs
-      pub first : HaveFirstFaults rules waiters faulty pairs
+      pub first : HaveFirstFaults states rules waiters faulty pairs
 
-    module _ (seen : List Bool) (pairs : List (RuleId × RuleId)) (rule fault : RuleId) (a : AreFound seen pairs) (h : IsHeldBy rules waiters faulty fault.0 rule.0) (i : IsFirstFault rules waiters faulty rule.0 fault)
+    module _ (seen : List Bool) (pairs : List (RuleId × RuleId)) (rule fault : RuleId) (a : AreFound seen pairs) (h : IsHeldBy states rules waiters faulty fault.0 rule.0) (i : IsFirstFault states rules waiters faulty rule.0 fault)
         (un : is_seen seen rule.0 ≡ false) where
       same_by : (x : ℕ) → x < length rules → (x ≡ rule.0) ⊎ (x ≢ rule.0) → is_seen (set seen rule.0 true) x ≡ (is_among x faulty || is_among x (firsts (pairs ++ (rule, fault) ∷ [])))
       same_by x lt (inl e) =
@@ -368,13 +381,13 @@ module _ (rules : List Kept) (waiters : List (List RuleId)) where
       fault_by n pair (inl e) = a.held.fault n pair e
       fault_by n pair (inr e) = ap (λ (x : RuleId × RuleId). is_among x.1.0 faulty) e ∙ among_by faulty i.place fault i.at
 
-      held_by : (n : ℕ) (pair : RuleId × RuleId) → (slice_get pairs n ≡ Some pair) ⊎ (pair ≡ (rule, fault)) → IsHeldBy rules waiters faulty pair.1.0 pair.0.0
+      held_by : (n : ℕ) (pair : RuleId × RuleId) → (slice_get pairs n ≡ Some pair) ⊎ (pair ≡ (rule, fault)) → IsHeldBy states rules waiters faulty pair.1.0 pair.0.0
       held_by n pair (inl e) = a.held.held n pair e
-      held_by n pair (inr e) = subst (λ (x : RuleId × RuleId). IsHeldBy rules waiters faulty x.1.0 x.0.0) (sym e) h
+      held_by n pair (inr e) = subst (λ (x : RuleId × RuleId). IsHeldBy states rules waiters faulty x.1.0 x.0.0) (sym e) h
 
-      first_by : (n : ℕ) (pair : RuleId × RuleId) → (slice_get pairs n ≡ Some pair) ⊎ (pair ≡ (rule, fault)) → IsFirstFault rules waiters faulty pair.0.0 pair.1
+      first_by : (n : ℕ) (pair : RuleId × RuleId) → (slice_get pairs n ≡ Some pair) ⊎ (pair ≡ (rule, fault)) → IsFirstFault states rules waiters faulty pair.0.0 pair.1
       first_by n pair (inl e) = a.first.each n pair e
-      first_by n pair (inr e) = subst (λ (x : RuleId × RuleId). IsFirstFault rules waiters faulty x.0.0 x.1) (sym e) i
+      first_by n pair (inr e) = subst (λ (x : RuleId × RuleId). IsFirstFault states rules waiters faulty x.0.0 x.1) (sym e) i
 
       new_one : is_among rule.0 (firsts pairs) ≡ false
       new_one =
@@ -392,17 +405,17 @@ module _ (rules : List Kept) (waiters : List (List RuleId)) where
       }
 
     -- what a walk finds was found, where no rule at fault that comes before holds it
-    found_all : (fault : RuleId) (seen : List Bool) (pairs : List (RuleId × RuleId)) (later : List Bool) (found : List (RuleId × RuleId)) → Finds (IsHeldBy rules waiters faulty fault.0) fault seen pairs later found → AreFound seen pairs
-        → ((x : ℕ) → is_seen seen x ≡ false → IsFirstFault rules waiters faulty x fault) → AreFound later found
+    found_all : (fault : RuleId) (seen : List Bool) (pairs : List (RuleId × RuleId)) (later : List Bool) (found : List (RuleId × RuleId)) → Finds (IsHeldBy states rules waiters faulty fault.0) fault seen pairs later found → AreFound seen pairs
+        → ((x : ℕ) → is_seen seen x ≡ false → IsFirstFault states rules waiters faulty x fault) → AreFound later found
     found_all fault seen pairs later found Finds.nothing a g = a
     found_all fault seen pairs later found (Finds.one_more {later = l} {found = p} rule k un f) a g =
-        found_more l p rule fault (found_all fault seen pairs l p f a g) k (g rule.0 (unseen_before (IsHeldBy rules waiters faulty fault.0) fault seen pairs l p f rule.0 un)) un
+        found_more l p rule fault (found_all fault seen pairs l p f a g) k (g rule.0 (unseen_before (IsHeldBy states rules waiters faulty fault.0) fault seen pairs l p f rule.0 un)) un
 
     -- the first so many of the rules at fault were followed, and whatever was found
     pub record AreFoundTo (count : ℕ) (seen : List Bool) (pairs : List (RuleId × RuleId)) : Type 0 where
       pub found : AreFound seen pairs
-      pub faults : (n : ℕ) (fault : RuleId) → n < count → slice_get faulty n ≡ Some fault → IsFollowed rules waiters seen fault.0
-      pub others : (n : ℕ) (pair : RuleId × RuleId) → slice_get pairs n ≡ Some pair → IsFollowed rules waiters seen pair.0.0
+      pub faults : (n : ℕ) (fault : RuleId) → n < count → slice_get faulty n ≡ Some fault → IsFollowed states rules waiters seen fault.0
+      pub others : (n : ℕ) (pair : RuleId × RuleId) → slice_get pairs n ≡ Some pair → IsFollowed states rules waiters seen pair.0.0
 
     module _ (count : ℕ) (seen : List Bool) (pairs : List (RuleId × RuleId)) (a : AreFoundTo count seen pairs) where
       -- a rule that was seen, and isn't at fault, was found
@@ -410,11 +423,11 @@ module _ (rules : List Kept) (waiters : List (List RuleId)) where
       seen_found rule out lt h = or_only (is_among rule faulty) (is_among rule (firsts pairs)) out (sym (a.found.same rule lt) ∙ h)
 
       -- so is whatever they hold
-      held_found : (n : ℕ) (fault : RuleId) → n < count → slice_get faulty n ≡ Some fault → (rule : ℕ) → IsHeldBy rules waiters faulty fault.0 rule → is_among rule (firsts pairs) ≡ true
+      held_found : (n : ℕ) (fault : RuleId) → n < count → slice_get faulty n ≡ Some fault → (rule : ℕ) → IsHeldBy states rules waiters faulty fault.0 rule → is_among rule (firsts pairs) ≡ true
       held_found n fault lt at rule (IsHeldBy.directly out known w) = seen_found rule out known ((a.faults n fault lt at).all rule w)
       held_found n fault lt at rule (IsHeldBy.in_turn other out known w h) =
           let s = stands_first pairs other (held_found n fault lt at other h) in
-          let followed = subst (IsFollowed rules waiters seen) s.is (a.others s.place s.pair s.at) in
+          let followed = subst (IsFollowed states rules waiters seen) s.is (a.others s.place s.pair s.at) in
           seen_found rule out known (followed.all rule w)
 
       all_seen : AreAllSeen rules faulty seen
@@ -425,13 +438,13 @@ module _ (rules : List Kept) (waiters : List (List RuleId)) where
           by rule h (inr le) = get_or_past seen rule true (let s = a.found.size in omega arith)
 
       -- no rule that wasn't seen is held by one of them
-      none_before : (rule : ℕ) → is_seen seen rule ≡ false → (n : ℕ) (other : RuleId) → n < count → slice_get faulty n ≡ Some other → IsHeldBy rules waiters faulty other.0 rule → ⊥
+      none_before : (rule : ℕ) → is_seen seen rule ≡ false → (n : ℕ) (other : RuleId) → n < count → slice_get faulty n ≡ Some other → IsHeldBy states rules waiters faulty other.0 rule → ⊥
       none_before rule un n other lt at h =
           let known = unseen_known faulty seen all_seen rule un in
           let found = held_found n other lt at rule h in
           true_false (is_seen seen rule) (a.found.same rule known ∙ or_second (is_among rule faulty) (is_among rule (firsts pairs)) found) un
 
-      pub all_found : length faulty ≤ count → HasAllHeld rules waiters faulty pairs
+      pub all_found : length faulty ≤ count → HasAllHeld states rules waiters faulty pairs
       all_found le = record {
         all = λ rule fault h i.
             let r : RuleId = record { 0 = fault } in
@@ -441,22 +454,22 @@ module _ (rules : List Kept) (waiters : List (List RuleId)) where
       }
 
     -- the next rule at fault was followed
-    module _ (count : ℕ) (fault : RuleId) (old new : Held) (at : slice_get faulty count ≡ Some fault) (a : AreFoundTo count old.seen.items old.pairs.items) (w : WalksTo rules waiters fault old new (length new.pairs.items)) where
-      walked : Finds (IsHeldBy rules waiters faulty fault.0) fault old.seen.items old.pairs.items new.seen.items new.pairs.items
+    module _ (count : ℕ) (fault : RuleId) (old new : Held) (at : slice_get faulty count ≡ Some fault) (a : AreFoundTo count old.seen.items old.pairs.items) (w : WalksTo states rules waiters fault old new (length new.pairs.items)) where
+      walked : Finds (IsHeldBy states rules waiters faulty fault.0) fault old.seen.items old.pairs.items new.seen.items new.pairs.items
       walked = w.finds faulty (all_seen count old.seen.items old.pairs.items a)
 
       seen_on_walk : (x : ℕ) → is_seen old.seen.items x ≡ true → is_seen new.seen.items x ≡ true
-      seen_on_walk x h = seen_still (IsHeldBy rules waiters faulty fault.0) fault old.seen.items old.pairs.items new.seen.items new.pairs.items walked x h
+      seen_on_walk x h = seen_still (IsHeldBy states rules waiters faulty fault.0) fault old.seen.items old.pairs.items new.seen.items new.pairs.items walked x h
 
-      faults_by : (n : ℕ) (other : RuleId) → n < count + 1 → slice_get faulty n ≡ Some other → (n ≡ count) ⊎ (n ≢ count) → IsFollowed rules waiters new.seen.items other.0
+      faults_by : (n : ℕ) (other : RuleId) → n < count + 1 → slice_get faulty n ≡ Some other → (n ≡ count) ⊎ (n ≢ count) → IsFollowed states rules waiters new.seen.items other.0
       faults_by n other lt e (inl same) =
           let this : fault ≡ other = same_Some fault other (sym at ∙ ap (slice_get faulty) (sym same) ∙ e) in
-          subst (λ (x : RuleId). IsFollowed rules waiters new.seen.items x.0) this w.first
+          subst (λ (x : RuleId). IsFollowed states rules waiters new.seen.items x.0) this w.first
       faults_by n other lt e (inr ne) = followed_still old.seen.items new.seen.items other.0 seen_on_walk (a.faults n other (omega arith) e)
 
-      others_by : (n : ℕ) (pair : RuleId × RuleId) → slice_get new.pairs.items n ≡ Some pair → (n < length old.pairs.items) ⊎ (length old.pairs.items ≤ n) → IsFollowed rules waiters new.seen.items pair.0.0
+      others_by : (n : ℕ) (pair : RuleId × RuleId) → slice_get new.pairs.items n ≡ Some pair → (n < length old.pairs.items) ⊎ (length old.pairs.items ≤ n) → IsFollowed states rules waiters new.seen.items pair.0.0
       others_by n pair e (inl lt) =
-          let back = found_back (IsHeldBy rules waiters faulty fault.0) fault old.seen.items old.pairs.items new.seen.items new.pairs.items walked n pair lt e in
+          let back = found_back (IsHeldBy states rules waiters faulty fault.0) fault old.seen.items old.pairs.items new.seen.items new.pairs.items walked n pair lt e in
           followed_still old.seen.items new.seen.items pair.0.0 seen_on_walk (a.others n pair back)
       others_by n pair e (inr le) = w.others n pair le (slice_get_within new.pairs.items n pair e) e
 
@@ -468,7 +481,7 @@ module _ (rules : List Kept) (waiters : List (List RuleId)) where
         others = λ n pair e. others_by n pair e (within_or n (length old.pairs.items));
       }
 
-    pub found_at : (count : ℕ) (d : RuleId) (old new : Held) → count < length faulty → AreFoundTo count old.seen.items old.pairs.items → WalksTo rules waiters (get_or faulty count d) old new (length new.pairs.items)
+    pub found_at : (count : ℕ) (d : RuleId) (old new : Held) → count < length faulty → AreFoundTo count old.seen.items old.pairs.items → WalksTo states rules waiters (get_or faulty count d) old new (length new.pairs.items)
         → AreFoundTo (count + 1) new.seen.items new.pairs.items
     found_at count d old new lt a w = found_next count (get_or faulty count d) old new (slice_get-get_or faulty count d lt) a w
 

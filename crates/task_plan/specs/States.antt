@@ -15,6 +15,23 @@ is_running Settled = false
 is_running Failed = false
 is_running Lacking = false
 
+abbrev pub is_waiting : RuleState → Bool
+is_waiting Waiting = true
+is_waiting Unneeded = false
+is_waiting Running = false
+is_waiting Settled = false
+is_waiting Failed = false
+is_waiting Lacking = false
+
+-- a rule failed, or lacks a dependency
+abbrev pub is_faulty : RuleState → Bool
+is_faulty Failed = true
+is_faulty Lacking = true
+is_faulty Unneeded = false
+is_faulty Waiting = false
+is_faulty Running = false
+is_faulty Settled = false
+
 -- how far a state is: a rule goes on in these stages, and never back
 abbrev pub stage : RuleState → ℕ
 stage Unneeded = 0

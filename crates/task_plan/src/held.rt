@@ -4,13 +4,13 @@ ghost use Rattle.std.specs.Prelude.{◌≡◌, ℕ, true, length, map, slice_get
 ghost use Rattle.std.specs.Option.{option_map};
 ghost use Rattle.task_plan.specs.Settled.{kept_of};
 ghost use Rattle.task_plan.specs.Noted.{lists_of};
-ghost use Rattle.task_plan.specs.Admits.{queues};
 ghost use Rattle.task_plan.specs.Walks.{is_seen};
 ghost use Rattle.task_plan.specs.Watched.{targets_at};
-ghost use Rattle.task_plan.specs.Held.{AreHeld, HasAllHeld, HasEachOnce, HaveFirstFaults, WaitsOn};
-ghost use Rattle.task_plan.specs.Holding.{FindsIn, IsBlankHeld, IsFollowed, WalksTo};
+ghost use Rattle.task_plan.specs.Held.{waits_for as waits_for_of, AreHeld, HasAllHeld, HasEachOnce, HaveFirstFaults, WaitsOn};
+ghost use Rattle.task_plan.specs.Holding.{FindsIn, IsBlankHeld, IsFollowed, IsToldOf, IsWaiter, WalksTo};
 
 use crate::files::Files;
+use crate::states::States;
 use crate::task::Task;
 use crate::walk::mark;
 use scons_base::{Memory, NodeId, RuleId};
@@ -28,21 +28,22 @@ struct Held {
 /// the first of these, in their order, for which it does.
 pub(crate) fn held_by(
     alloc: Global,
+    states: &States,
     tasks: &[Task],
     files: &Files,
     faulty: &[RuleId],
 ) -> Result<Vec<(RuleId, RuleId)>, Memory>
     ensures real { IfOk result (λ held.
-        AreHeld (map kept_of tasks.now) (lists_of files.now.waiters.items) faulty.now held.items) }
+        AreHeld states.now (map kept_of tasks.now) (lists_of files.now.waiters.items) faulty.now held.items) }
     ensures all { IfOk result (λ held.
-        HasAllHeld (map kept_of tasks.now) (lists_of files.now.waiters.items) faulty.now held.items) }
+        HasAllHeld states.now (map kept_of tasks.now) (lists_of files.now.waiters.items) faulty.now held.items) }
     ensures once { IfOk result (λ held. HasEachOnce held.items) }
     ensures first { IfOk result (λ held.
-        HaveFirstFaults (map kept_of tasks.now) (lists_of files.now.waiters.items) faulty.now held.items) }
+        HaveFirstFaults states.now (map kept_of tasks.now) (lists_of files.now.waiters.items) faulty.now held.items) }
 {
     let mut held = Held::new(alloc, tasks.len(), faulty)?;
     for fault in faulty {
-        held.add_held(tasks, files, *fault)?;
+        held.add_held(states, tasks, files, *fault)?;
     }
     let Held { pairs, .. } = held;
     Ok(pairs)
@@ -65,17 +66,23 @@ impl Held {
 
     /// Adds what a rule at fault holds, and wasn't found before. What was found is walked over in its order, and there are
     /// never as many rules as there are numbers.
-    fn add_held(&mut self, tasks: &[Task], files: &Files, fault: RuleId) -> Result<(), Memory>
-        ensures { OnOk result (WalksTo (map kept_of tasks.now) (lists_of files.now.waiters.items) fault
+    fn add_held(
+        &mut self,
+        states: &States,
+        tasks: &[Task],
+        files: &Files,
+        fault: RuleId,
+    ) -> Result<(), Memory>
+        ensures { OnOk result (WalksTo states.now (map kept_of tasks.now) (lists_of files.now.waiters.items) fault
             self.old self.new (length self.new.pairs.items)) }
     {
         let start = self.pairs.len();
-        self.add_waiting(tasks, files, fault, fault)?;
+        self.add_waiting(states, tasks, files, fault, fault)?;
         for place in start..usize::MAX {
             let Some(rule) = self.rule_at(place) else {
                 return Ok(());
             };
-            self.add_waiting(tasks, files, rule, fault)?;
+            self.add_waiting(states, tasks, files, rule, fault)?;
         }
         Err(Memory)
     }
@@ -93,31 +100,62 @@ impl Held {
     /// Adds the rules that wait for a target of this one, and weren't seen, for one at fault.
     fn add_waiting(
         &mut self,
+        states: &States,
         tasks: &[Task],
         files: &Files,
         rule: RuleId,
         fault: RuleId,
     ) -> Result<(), Memory>
         ensures finds { OnOk result (FindsIn
-            (λ r. WaitsOn (map kept_of tasks.now) (lists_of files.now.waiters.items) r rule.0) fault self.old self.new) }
-        ensures all { OnOk result (IsFollowed (map kept_of tasks.now) (lists_of files.now.waiters.items)
+            (λ r. WaitsOn states.now (map kept_of tasks.now) (lists_of files.now.waiters.items) r rule.0) fault self.old self.new) }
+        ensures all { OnOk result (IsFollowed states.now (map kept_of tasks.now) (lists_of files.now.waiters.items)
             self.new.seen.items rule.0) }
     {
         let targets = targets_of(tasks, rule);
         for target in targets {
-            self.add_unseen(files.waiters(*target), fault)?;
+            self.add_told(states, tasks, *target, files.waiters(*target), fault)?;
         }
         Ok(())
     }
 
-    /// Adds those of these rules that weren't seen.
-    fn add_unseen(&mut self, rules: &[RuleId], fault: RuleId) -> Result<(), Memory>
-        ensures finds { OnOk result (FindsIn (λ r. queues rules.now r ≡ true) fault self.old self.new) }
-        ensures all { OnOk result ((r : ℕ) → queues rules.now r ≡ true → is_seen self.new.seen.items r ≡ true) }
+    /// Adds those of these rules, which are told when a file is done, that wait for it and weren't seen.
+    fn add_told(
+        &mut self,
+        states: &States,
+        tasks: &[Task],
+        file: NodeId,
+        rules: &[RuleId],
+        fault: RuleId,
+    ) -> Result<(), Memory>
+        ensures finds { OnOk result (FindsIn
+            (λ r. IsToldOf states.now (map kept_of tasks.now) rules.now file r) fault self.old self.new) }
+        ensures all { OnOk result ((r : ℕ) → IsToldOf states.now (map kept_of tasks.now) rules.now file r
+            → is_seen self.new.seen.items r ≡ true) }
     {
         for rule in rules {
-            self.add(*rule, fault)?;
+            self.add_waiter(states, tasks, file, *rule, fault)?;
         }
+        Ok(())
+    }
+
+    /// Adds a rule that waits for a file, unless it was seen.
+    fn add_waiter(
+        &mut self,
+        states: &States,
+        tasks: &[Task],
+        file: NodeId,
+        rule: RuleId,
+        fault: RuleId,
+    ) -> Result<(), Memory>
+        ensures finds { OnOk result (FindsIn
+            (λ r. IsWaiter states.now (map kept_of tasks.now) file rule.0 r) fault self.old self.new) }
+        ensures seen { OnOk result (waits_for_of states.now (map kept_of tasks.now) rule.0 file ≡ true
+            → is_seen self.new.seen.items rule.0 ≡ true) }
+    {
+        if !waits_for(states, tasks, rule, file) {
+            return Ok(());
+        }
+        self.add(rule, fault)?;
         Ok(())
     }
 
@@ -141,5 +179,15 @@ fn targets_of(tasks: &[Task], rule: RuleId) -> &[NodeId]
     match tasks.get(rule.0 as usize) {
         Some(task) => task.targets.as_slice(),
         None => &[],
+    }
+}
+
+/// Whether a rule waits, and requires or depends on a file.
+fn waits_for(states: &States, tasks: &[Task], rule: RuleId, file: NodeId) -> bool
+    ensures { result ≡ waits_for_of states.now (map kept_of tasks.now) rule.0 file }
+{
+    match tasks.get(rule.0 as usize) {
+        Some(task) => states.waits(rule) && task.has_need(file),
+        None => false,
     }
 }

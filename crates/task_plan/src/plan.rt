@@ -4,7 +4,7 @@ ghost use Rattle.std.specs.Prelude.{◌≡◌, ◌≢◌, ◌<◌, ◌||◌, ◌
 ghost use Rattle.std.specs.List.{count_by};
 ghost use Rattle.scons_base.specs.declared.ids.RuleId.{RuleId};
 ghost use Rattle.scons_base.specs.declared.ids.NodeId.{NodeId};
-ghost use Rattle.task_plan.specs.States.{is_running, state_of};
+ghost use Rattle.task_plan.specs.States.{is_faulty as is_faulty_of, is_running, state_of};
 ghost use Rattle.task_plan.specs.Settled.{deps_of};
 ghost use Rattle.task_plan.specs.Plans.{AreMet, Meets, IsDecidedNext, IsScannedNext, IsReadyToScan, IsIdle, Goes, GoesOn, is_scan, is_halt};
 ghost use Rattle.task_plan.specs.Cycles.{HasNoCycle, IsCycle};
@@ -293,15 +293,22 @@ impl Plan {
         }
     }
 
+    /// Whether a rule failed, or lacks a dependency.
+    pub fn is_faulty(&self, rule: RuleId) -> bool
+        ensures { result ≡ is_faulty_of (state_of self.now.states rule.0) }
+    {
+        self.states.is_faulty(rule)
+    }
+
     /// For each rule that waits, directly or through others, for one of these rules at fault, and is none of them: itself
     /// and the first of these, in their order, for which it does.
     pub fn held_by(&self, faulty: &[RuleId]) -> Result<Listing<(RuleId, RuleId)>, Memory>
-        ensures real { IfOk result (AreHeld self.now.rules self.now.notes.waiters faulty.now) }
-        ensures all { IfOk result (HasAllHeld self.now.rules self.now.notes.waiters faulty.now) }
+        ensures real { IfOk result (AreHeld self.now.states self.now.rules self.now.notes.waiters faulty.now) }
+        ensures all { IfOk result (HasAllHeld self.now.states self.now.rules self.now.notes.waiters faulty.now) }
         ensures once { IfOk result HasEachOnce }
-        ensures first { IfOk result (HaveFirstFaults self.now.rules self.now.notes.waiters faulty.now) }
+        ensures first { IfOk result (HaveFirstFaults self.now.states self.now.rules self.now.notes.waiters faulty.now) }
     {
-        let held = held_by(self.alloc, &self.tasks, &self.files, faulty)?;
+        let held = held_by(self.alloc, &self.states, &self.tasks, &self.files, faulty)?;
         Ok(Listing::new(held))
     }
 

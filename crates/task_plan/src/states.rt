@@ -1,7 +1,7 @@
 //! How far the rules are, and how many run.
 ghost use Rattle.std.specs.Prelude.{◌≡◌, ◌≢◌, ◌++◌, ◌∷◌, ◌<◌, ◌≤◌, ◌+◌, ◌^◌, [], ℕ, if◌then◌else◌, OnOk, OnErr, true, false, length, slice_set};
 ghost use Rattle.std.specs.List.{count_by};
-ghost use Rattle.task_plan.specs.States.{state_of, is_running};
+ghost use Rattle.task_plan.specs.States.{state_of, is_faulty as is_faulty_of, is_running};
 ghost use Rattle.task_plan.specs.Cycles.{is_unsettled as is_unsettled_of};
 ghost use Rattle.task_plan.specs.Plans.{AreMet};
 
@@ -108,6 +108,17 @@ impl States {
             RuleState::Waiting | RuleState::Running | RuleState::Failed | RuleState::Lacking =>
                 true,
             RuleState::Unneeded | RuleState::Settled => false,
+        }
+    }
+
+    /// Whether a rule failed, or lacks a dependency.
+    pub(crate) fn is_faulty(&self, rule: RuleId) -> bool
+        ensures { result ≡ is_faulty_of (state_of self.now rule.0) }
+    {
+        match self.of(rule) {
+            RuleState::Failed | RuleState::Lacking => true,
+            RuleState::Unneeded | RuleState::Waiting | RuleState::Running | RuleState::Settled =>
+                false,
         }
     }
 

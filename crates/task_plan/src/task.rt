@@ -1,6 +1,6 @@
 //! What the plan keeps of a rule.
 ghost use Rattle.std.specs.Prelude.{◌≡◌, ◌≤◌, ◌<◌, true, false, length, slice_get, OnOk, ◌++◌, IfOk, []};
-ghost use Rattle.task_plan.specs.Named.{put_all as put_all_of};
+ghost use Rattle.task_plan.specs.Named.{stands, put_all as put_all_of};
 ghost use Rattle.task_plan.specs.Settled.{needs_of, next_of, AreDoneTo, AreScannedTo, IsDoneAt, IsUndoneAt, IsUnscannedAt, KeepsNeeds, IsThrough};
 ghost use Rattle.task_plan.specs.Loaded.{IsBlank};
 ghost use Rattle.task_plan.specs.Listed.{AreDeps, IsGrown, IsListing, KeepsNamed, KeepsNames, KeepsSeen, Takes};
@@ -69,6 +69,13 @@ impl Task {
         } else {
             self.deps.get_index(place - self.required.len()).copied()
         }
+    }
+
+    /// Whether it requires or depends on this file.
+    pub(crate) fn has_need(&self, node: NodeId) -> bool
+        ensures { result ≡ stands (needs_of self.now) node }
+    {
+        self.required.contains(&node) || self.deps.contains(&node)
     }
 
     /// The file that is looked at next.
