@@ -1,7 +1,8 @@
 use Rattle.scons_top.proofs.Opening.{bytes_memory, bytes_exit, bytes_list, bytes_after}
-use Rattle.scons_top.specs.declared.step.Step.TheVariants as step
-use Rattle.scons_top.proofs.Stepping.{stops_memory, stops_exit, stops_list, look_at}
-use Rattle.std.proofs.Common.{refl}
+use Rattle.scons_top.proofs.Asking.{asked_exit, asked_list, asked_memory, look_at, stops_weaker, ends_weaker, none_as, unknown_path, unknown_alias}
+use Rattle.scons_top.specs.Asked.{IsNoPath, IsUnknownAs, IsWord, IsWordIn, NamesNone}
+use Rattle.std.proofs.Common.{◌∙◌, ap, refl, sym}
+use Rattle.std.specs.Option.{option_copied}
 use Rattle.scons_top.proofs.Watching.{watches_on}
 use Rattle.scons_top.proofs.Causing.{world_back, world_exit, look_exit, inner_step, world_memory}
 use Rattle.scons_top.proofs.requests.request_of.Goals as goal
@@ -34,16 +35,22 @@ pub returns-clause-step : goal.returns-clause-step
 returns-clause-step g c = world_back _ _ _ c.file_request.result c.in_ok-has_rule.ensures.cause c.file_request.ensures.step
 
 pub returns-in_err-nodes-clause-stops : goal.returns-in_err-nodes-clause-stops
-returns-in_err-nodes-clause-stops g c = stops_memory step.Requests c.from_residual.result c.from_residual.ensures.1
+returns-in_err-nodes-clause-stops g c = asked_memory _ c.from_residual.result c.from_residual.ensures.1
 
 pub returns-in_err-check_members-clause-stops : goal.returns-in_err-check_members-clause-stops
-returns-in_err-check_members-clause-stops g c = stops_exit step.Requests c.from_residual-in_err-check_members.result _ c.from_residual-in_err-check_members.ensures.1 c.in_err-check_members.ensures.stops
+returns-in_err-check_members-clause-stops g c =
+    let graph = c.args.graph.now in
+    let word = c.args.word.now in
+    let r = c.from_residual-in_err-check_members in
+    let alias = sym c.alias.ensures.members ∙ ap option_copied c.in-Some.is in
+    asked_exit (IsUnknownAs graph word) r.result _ r.ensures.1
+    (stops_weaker (IsNoPath word) (IsUnknownAs graph word) _ (λ other is. (is.0, unknown_alias graph word c.as_str.result.now c.in-Some.members.now c.as_str.ensures alias is.1)) c.in_err-check_members.ensures.stops)
 
 pub returns-in_err-path-clause-stops : goal.returns-in_err-path-clause-stops
-returns-in_err-path-clause-stops g c = stops_memory step.Requests c.from_residual-in_err-path.result c.from_residual-in_err-path.ensures.1
+returns-in_err-path-clause-stops g c = asked_memory _ c.from_residual-in_err-path.result c.from_residual-in_err-path.ensures.1
 
 pub returns-in_err-has_rule-clause-stops : goal.returns-in_err-has_rule-clause-stops
-returns-in_err-has_rule-clause-stops g c = stops_list step.Requests c.from_residual-in_err-has_rule.result _ c.from_residual-in_err-has_rule.ensures.1 (look_at _ _ _ c.in_err-has_rule.ensures.cause)
+returns-in_err-has_rule-clause-stops g c = asked_list _ c.from_residual-in_err-has_rule.result _ c.from_residual-in_err-has_rule.ensures.1 (look_at _ _ _ _ c.in_err-has_rule.ensures.cause)
 
 pub returns-in_err-nodes-clause-bytes : goal.returns-in_err-nodes-clause-bytes
 returns-in_err-nodes-clause-bytes g c = λ t. bytes_memory _ c.from_residual.result c.from_residual.ensures.1
