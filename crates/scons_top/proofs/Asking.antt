@@ -1,11 +1,16 @@
 -- Stops before all words stand for nodes.
 use Rattle.std.proofs.Common.{◌≡◌, ◌≢◌, ◌∙◌, ◌<◌, ◌⊎◌, inl, inr, ap, refl, sym, subst, ℕ, Bool, true, false, List, Option, Some, None, length, get_or, Contains}
-use Rattle.std.specs.Prelude.{All, Result, Ok, Err, IsErrAnd, IfErr, MatchOption}
+use Rattle.std.specs.Prelude.{All, Result, Ok, Err, IsErrAnd, IfErr, MatchOption, is_none, is_some}
+use Rattle.std.specs.Option.{option_map}
 use Rattle.std.proofs.lemmas.List.Elements.{All-contains, Contains-get_or}
-use Rattle.scons_base.specs.PathFaults.{is_path}
+use Rattle.scons_base.specs.PathFaults.{fault_in, is_path}
+use Rattle.scons_base.specs.declared.fault.PathFault.{PathFault}
+use Rattle.scons_base.specs.declared.ids.RuleId.{RuleId}
 use Rattle.scons_base.specs.Resolve.{spelling}
 use Rattle.world_api.specs.Banks.{Banks}
 use Rattle.world_api.specs.Counts.{Counts}
+use Rattle.node_tree.specs.Nodes.{number_of}
+use Rattle.rule_graph.specs.Rules.{rule_of}
 use Rattle.rule_graph.specs.Aliases.{members_of}
 use Rattle.rule_graph.specs.Graphs.{RuleGraph}
 use Rattle.rule_graph.specs.declared.build_fault.BuildFault.{BuildFault}
@@ -21,7 +26,7 @@ use Rattle.scons_top.specs.declared.report.Top.TheVariants as top
 use Rattle.scons_top.specs.declared.step.Step.TheVariants as step
 use Rattle.scons_top.specs.declared.stop.Stop.{Stop}
 use Rattle.scons_top.specs.declared.stop.Stop.TheVariants as stop
-use Rattle.scons_top.specs.Asked.{asked_of, is_target, IsToldUnknown, StopsUnknown, IsNoPath, IsUnknown, IsUnknownAs, IsUnknownOf, IsWord, IsWordIn, NamesNone, StopsFor}
+use Rattle.scons_top.specs.Asked.{asked_of, is_target, is_target_at, IsToldUnknown, StopsUnknown, IsNoPath, IsUnknown, IsUnknownAs, IsUnknownOf, IsWord, IsWordIn, NamesNone, StopsFor}
 use Rattle.scons_words.specs.declared.words.Words.{Words}
 use Rattle.rule_graph.specs.declared.wish.Wish.{Wish}
 use Rattle.scons_top.specs.declared.report.Report.{Report}
@@ -139,6 +144,39 @@ unknown_some g word found members is h = rw (is) h
 
 pub unknown_alias : (g : RuleGraph) (word name : List ℕ) (members : List NodeId) → name ≡ word → members_of g.aliases name ≡ Some members → is_path word ≡ false → IsUnknown g word
 unknown_alias g word name members same is h = unknown_some g word (members_of g.aliases word) members (subst (λ (w : List ℕ). members_of g.aliases w ≡ Some members) same is) h
+
+-- by the graph as it was
+pub unknown_at : (old new : RuleGraph) (word other : List ℕ) → IsUnknown old word → IsWordIn old new word other → IsUnknownAs new word other
+unknown_at old new word other h is = (is.0, subst (λ (g : RuleGraph). IsUnknown g word) (sym is.1) h)
+
+pub target_spelled : (g : RuleGraph) (word above path spelled : List ℕ) → path ≡ word → above ≡ g.top → spelled ≡ spelling above path → is_target g spelled ≡ false
+    → is_target g (spelling g.top word) ≡ false
+target_spelled g word above path spelled is at as h =
+    subst (λ (p : List ℕ). is_target g p ≡ false) (as ∙ ap (λ (t : List ℕ). spelling t path) at ∙ ap (λ (p : List ℕ). spelling g.top p) is) h
+
+some_map : {A B : Type 0} (f : A → B) (o : Option A) → is_some (option_map f o) ≡ is_some o
+some_map f None = refl
+some_map f (Some x) = refl
+
+number_as : (g : RuleGraph) (path : List ℕ) (found same : Option NodeId) → option_map (λ (id : NodeId). id.0) found ≡ number_of g.nodes path → found ≡ same
+    → number_of g.nodes path ≡ option_map (λ (id : NodeId). id.0) same
+number_as g path found same at is = sym at ∙ ap (λ (o : Option NodeId). option_map (λ (id : NodeId). id.0) o) is
+
+pub declared_some : (g : RuleGraph) (path : List ℕ) (found : Option NodeId) (node : NodeId) (rule : Option RuleId) (b : Bool) → option_map (λ (id : NodeId). id.0) found ≡ number_of g.nodes path
+    → found ≡ Some node → option_map (λ (id : RuleId). id.0) rule ≡ rule_of g.rules node.0 → b ≡ is_some rule → b ≡ is_target g path
+declared_some g path found node rule b at is of said =
+    said ∙ sym (some_map (λ (id : RuleId). id.0) rule) ∙ ap (λ (o : Option ℕ). is_some o) of ∙ sym (ap (is_target_at g) (number_as g path found (Some node) at is))
+
+pub declared_none : (g : RuleGraph) (path : List ℕ) (found : Option NodeId) → option_map (λ (id : NodeId). id.0) found ≡ number_of g.nodes path → found ≡ None → false ≡ is_target g path
+declared_none g path found at is = sym (ap (is_target_at g) (number_as g path found None at is))
+
+-- a word as a path
+
+pub path_read : (text word path : List ℕ) → path ≡ text → fault_in text ≡ None → text ≡ word → (path ≡ word) × (is_path word ≡ true)
+path_read text word path is none same = (is ∙ same, sym (ap is_path same) ∙ ap (λ (f : Option PathFault). is_none f) none)
+
+pub no_path : (text word : List ℕ) (fault : PathFault) → fault_in text ≡ Some fault → text ≡ word → is_path word ≡ false
+no_path text word fault is same = sym (ap is_path same) ∙ ap (λ (f : Option PathFault). is_none f) is
 
 -- among those that are asked for
 pub unknown_of : (g : RuleGraph) (words : List (List ℕ)) (i : ℕ) (d word other : List ℕ) → i < length words → word ≡ get_or words i d → IsUnknownAs g word other → IsUnknownOf g words other

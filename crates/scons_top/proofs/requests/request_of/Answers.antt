@@ -77,3 +77,13 @@ pub returns-clause-bytes : goal.returns-clause-bytes
 returns-clause-bytes g c = 
     bytes_after g.W.Disk.meaning c.args.world.now c.has_rule.new.world c.file_request.new.world c.file_request.result c.has_rule.ensures.watches.looks c.file_request.ensures.watches.looks.told.told
     c.file_request.ensures.bytes
+
+pub returns-in-Some-clause-stops : goal.returns-in-Some-clause-stops
+returns-in-Some-clause-stops g c =
+    let is_unknown = IsUnknownAs c.args.graph.now c.args.word.now in
+    ends_weaker NamesNone is_unknown c.made.result (none_as is_unknown) c.made.ensures.stops
+
+pub returns-then-branch-clause-stops : goal.returns-then-branch-clause-stops
+returns-then-branch-clause-stops g c =
+    let is_unknown = IsUnknownAs c.node_request.new.graph c.args.word.now in
+    ends_weaker NamesNone is_unknown c.node_request.result (none_as is_unknown) c.node_request.ensures.stops
