@@ -33,6 +33,9 @@ abbrev pub asked_of : List Wish → List (List ℕ) → List (List ℕ)
 asked_of defaults [] = or_top (map word_of defaults)
 asked_of defaults (word ∷ words) = word ∷ words
 
+abbrev pub asked_by : RuleGraph → Words → List (List ℕ)
+asked_by g said = asked_of g.defaults said.requested
+
 -- the words that requests stand for
 abbrev pub words_asked : List Request → List (List ℕ)
 words_asked requests = map (λ request. request.word) requests
@@ -57,6 +60,10 @@ IsUnknown g word =
 abbrev pub StopsFor : (List ℕ → Type 0) → Stop → Type 0
 StopsFor P (stop.Fault (top.UnknownTarget word)) = P word
 StopsFor P other = StopsAt step.Requests other
+
+-- a word read as a path, where it is one
+abbrev pub IsReadAs : List ℕ → Option (List ℕ) → Type 0
+IsReadAs word path = MatchOption path (is_path word ≡ false) (λ p. (p ≡ word) × (is_path word ≡ true))
 
 -- there is none
 abbrev pub NamesNone : List ℕ → Type 0

@@ -1,8 +1,7 @@
 //! What the words ask for.
-ghost use Rattle.std.specs.Prelude.{◌≡◌, false, true, IfErr, IfOk, MatchOption, []};
-ghost use Rattle.scons_base.specs.PathFaults.{is_path};
+ghost use Rattle.std.specs.Prelude.{◌≡◌, [], false, IfErr, IfOk};
 ghost use Rattle.build_files.specs.Causes.{HasLookCause};
-ghost use Rattle.scons_top.specs.Asked.{asked_of, is_target, words_asked, IsUnknownAs, IsUnknownOf, IsWord, IsWordIn, NamesNone, StopsFor};
+ghost use Rattle.scons_top.specs.Asked.{asked_by, asked_of, is_target, words_asked, IsReadAs, IsUnknownAs, IsUnknownOf, IsWord, IsWordIn, NamesNone, StopsFor};
 ghost use Rattle.scons_top.specs.Foreign.{StepByBytes, StepOnNone, StopsByBytes};
 ghost use Rattle.scons_top.specs.Requested.{AsksForNodes, AskForNodes, HasMore, KnowsNodes};
 ghost use Rattle.scons_top.specs.Stops.{WorldStep, InnerStep, IsInside};
@@ -41,9 +40,9 @@ pub(crate) fn requests_of<W: World>(
 ) -> Result<Vec<Request>, Stop>
     ensures watches { Watches W.meaning world.old world.new }
     ensures step { WorldStep (W.meaning.counts world.old) (W.meaning.counts world.new) result }
-    ensures stops { IfErr result (StopsFor (IsUnknownOf graph.new (asked_of graph.old.defaults words.now.requested))) }
+    ensures stops { IfErr result (StopsFor (IsUnknownOf graph.new (asked_by graph.old words.now))) }
     ensures bytes { StepByBytes W.meaning world.old world.new result }
-    ensures words { IfOk result (λ requests. words_asked requests.items ≡ asked_of graph.old.defaults words.now.requested) }
+    ensures words { IfOk result (λ requests. words_asked requests.items ≡ asked_by graph.old words.now) }
     ensures nodes { IfOk result (λ requests. AskForNodes graph.new requests.items) }
 {
     let asked = match words.requested.as_slice() {
@@ -240,7 +239,7 @@ fn made(word: &Text, nodes: Vec<NodeId>) -> Result<Request, Stop>
 
 /// A word as a path, if it is one.
 pub(crate) fn path_in(alloc: Global, word: &Text) -> Result<Option<PathText>, Memory>
-    ensures { IfOk result (λ path. MatchOption path (is_path word.now ≡ false) (λ p. (p ≡ word.now) × (is_path word.now ≡ true))) }
+    ensures { IfOk result (IsReadAs word.now) }
 {
     match PathText::read(alloc, word.as_str()) {
         Ok(path) => Ok(Some(path)),
