@@ -133,14 +133,16 @@ none_as P word h = absurd h
 
 unknown_none : (g : RuleGraph) (word : List ℕ) (found : Option (List NodeId)) → found ≡ None → (is_path word ≡ true → is_target g (spelling g.top word) ≡ false)
     → MatchOption found (is_path word ≡ true → is_target g (spelling g.top word) ≡ false) (λ members. is_path word ≡ false)
-unknown_none g word found is h = rw (is) h
+unknown_none g word found is h =
+    subst (λ (o : Option (List NodeId)). MatchOption o (is_path word ≡ true → is_target g (spelling g.top word) ≡ false) (λ members. is_path word ≡ false)) (sym is) h
 
 pub unknown_path : (g : RuleGraph) (word name : List ℕ) → name ≡ word → members_of g.aliases name ≡ None → (is_path word ≡ true → is_target g (spelling g.top word) ≡ false) → IsUnknown g word
 unknown_path g word name same none h = unknown_none g word (members_of g.aliases word) (subst (λ (w : List ℕ). members_of g.aliases w ≡ None) same none) h
 
 unknown_some : (g : RuleGraph) (word : List ℕ) (found : Option (List NodeId)) (members : List NodeId) → found ≡ Some members → is_path word ≡ false
     → MatchOption found (is_path word ≡ true → is_target g (spelling g.top word) ≡ false) (λ members. is_path word ≡ false)
-unknown_some g word found members is h = rw (is) h
+unknown_some g word found members is h =
+    subst (λ (o : Option (List NodeId)). MatchOption o (is_path word ≡ true → is_target g (spelling g.top word) ≡ false) (λ members. is_path word ≡ false)) (sym is) h
 
 pub unknown_alias : (g : RuleGraph) (word name : List ℕ) (members : List NodeId) → name ≡ word → members_of g.aliases name ≡ Some members → is_path word ≡ false → IsUnknown g word
 unknown_alias g word name members same is h = unknown_some g word (members_of g.aliases word) members (subst (λ (w : List ℕ). members_of g.aliases w ≡ Some members) same is) h

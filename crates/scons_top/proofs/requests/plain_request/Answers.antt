@@ -15,7 +15,9 @@ pub returns-clause-step : goal.returns-clause-step
 returns-clause-step g c = inner_step _ _ c.node_request.result c.in_ok-is_left_over.ensures.step c.node_request.ensures.step
 
 pub returns-in_err-is_left_over-clause-stops : goal.returns-in_err-is_left_over-clause-stops
-returns-in_err-is_left_over-clause-stops g c = asked_exit _ c.from_residual.result _ c.from_residual.ensures.1 (stops_weaker NamesNone _ _ (none_as _) c.in_err-is_left_over.ensures.stops)
+returns-in_err-is_left_over-clause-stops g c =
+    let is_word = IsWordIn c.args.graph.now c.args.graph.now c.args.word.now in
+    asked_exit is_word c.from_residual.result _ c.from_residual.ensures.1 (stops_weaker NamesNone is_word _ (none_as is_word) c.in_err-is_left_over.ensures.stops)
 
 pub returns-in_err-is_left_over-clause-bytes : goal.returns-in_err-is_left_over-clause-bytes
 returns-in_err-is_left_over-clause-bytes g c = λ t. bytes_exit _ c.from_residual.result _ c.from_residual.ensures.1 (c.in_err-is_left_over.ensures.bytes t)
