@@ -153,8 +153,8 @@ unknown_at old new word other h is = (is.0, subst (λ (g : RuleGraph). IsUnknown
 
 pub target_spelled : (g : RuleGraph) (word above path spelled : List ℕ) → path ≡ word → above ≡ g.top → spelled ≡ spelling above path → is_target g spelled ≡ false
     → is_target g (spelling g.top word) ≡ false
-target_spelled g word above path spelled is at as h =
-    subst (λ (p : List ℕ). is_target g p ≡ false) (as ∙ ap (λ (t : List ℕ). spelling t path) at ∙ ap (λ (p : List ℕ). spelling g.top p) is) h
+target_spelled g word above path spelled is at spells h =
+    subst (λ (p : List ℕ). is_target g p ≡ false) (spells ∙ ap (λ (t : List ℕ). spelling t path) at ∙ ap (λ (p : List ℕ). spelling g.top p) is) h
 
 some_map : {A B : Type 0} (f : A → B) (o : Option A) → is_some (option_map f o) ≡ is_some o
 some_map f None = refl

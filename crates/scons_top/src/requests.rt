@@ -1,7 +1,7 @@
 //! What the words ask for.
-ghost use Rattle.std.specs.Prelude.{◌≡◌, [], false, IfErr, IfOk};
+ghost use Rattle.std.specs.Prelude.{◌≡◌, [], false, map, IfErr, IfOk};
 ghost use Rattle.build_files.specs.Causes.{HasLookCause};
-ghost use Rattle.scons_top.specs.Asked.{asked_by, asked_of, is_target, words_asked, IsReadAs, IsUnknownAs, IsUnknownOf, IsWord, IsWordIn, NamesNone, StopsFor};
+ghost use Rattle.scons_top.specs.Asked.{asked_by, asked_of, is_target, word_of, words_asked, IsReadAs, IsUnknownAs, IsUnknownOf, IsWord, IsWordIn, NamesNone, StopsFor};
 ghost use Rattle.scons_top.specs.Foreign.{StepByBytes, StepOnNone, StopsByBytes};
 ghost use Rattle.scons_top.specs.Requested.{AsksForNodes, AskForNodes, HasMore, KnowsNodes};
 ghost use Rattle.scons_top.specs.Stops.{WorldStep, InnerStep, IsInside};
@@ -79,18 +79,31 @@ fn requests_for<W: World>(
 fn defaults_of(alloc: Global, graph: &Graph) -> Result<Texts, Memory>
     ensures { IfOk result (λ words. words ≡ asked_of graph.now.defaults []) }
 {
-    let mut words = Vec::new(alloc);
-    for wish in graph.defaults() {
-        let word = match wish {
-            Wish::Alias(name) => name.copy()?,
-            Wish::Path(path) => Text::of(alloc, path.as_str())?,
-        };
-        words.push(word)?;
-    }
+    let words = words_of(alloc, graph.defaults())?;
     if words.is_empty() {
-        words.push(Text::of(alloc, ".")?)?;
+        return Ok(Texts::new(vec![in alloc; Text::of(alloc, ".")?]?));
     }
     Ok(Texts::new(words))
+}
+
+/// Defaults as words.
+fn words_of(alloc: Global, wishes: &[Wish]) -> Result<Vec<Text>, Memory>
+    ensures { IfOk result (λ words. words.items ≡ map word_of wishes.now) }
+{
+    let mut words = Vec::new(alloc);
+    for wish in wishes {
+        words.push(word_for(alloc, wish)?)?;
+    }
+    Ok(words)
+}
+
+fn word_for(alloc: Global, wish: &Wish) -> Result<Text, Memory>
+    ensures { IfOk result (λ word. word ≡ word_of wish.now) }
+{
+    match wish {
+        Wish::Alias(name) => name.copy(),
+        Wish::Path(path) => Text::of(alloc, path.as_str()),
+    }
 }
 
 /// What a word stands for: an alias, a path that has a rule, a file, or a directory.

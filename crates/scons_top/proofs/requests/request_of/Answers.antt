@@ -1,7 +1,9 @@
 use Rattle.scons_top.proofs.Opening.{bytes_memory, bytes_exit, bytes_list, bytes_after}
-use Rattle.scons_top.proofs.Asking.{asked_exit, asked_list, asked_memory, look_at, stops_weaker, ends_weaker, none_as, unknown_path, unknown_alias}
-use Rattle.scons_top.specs.Asked.{IsNoPath, IsUnknownAs, IsWord, IsWordIn, NamesNone}
-use Rattle.std.proofs.Common.{◌∙◌, ap, refl, sym}
+use Rattle.scons_top.proofs.Asking.{asked_exit, asked_list, asked_memory, look_at, stops_weaker, ends_weaker, none_as, unknown_path, unknown_alias, unknown_at}
+use Rattle.scons_top.specs.Asked.{is_target, IsNoPath, IsUnknownAs, IsWordIn, NamesNone}
+use Rattle.scons_base.specs.Resolve.{spelling}
+use Rattle.rule_graph.specs.Aliases.{members_of}
+use Rattle.std.proofs.Common.{rules, ◌≡◌, ◌∙◌, false, ap, refl, sym, None}
 use Rattle.std.specs.Option.{option_copied}
 use Rattle.scons_top.proofs.Watching.{watches_on}
 use Rattle.scons_top.proofs.Causing.{world_back, world_exit, look_exit, inner_step, world_memory}
@@ -16,8 +18,8 @@ returns-in-Some-clause-step g c = inner_step _ _ c.made.result c.in_ok-check_mem
 pub returns-in_err-check_members-clause-step : goal.returns-in_err-check_members-clause-step
 returns-in_err-check_members-clause-step g c = let r = c.from_residual-in_err-check_members in world_exit _ _ r.result _ r.ensures.1 c.in_err-check_members.ensures.step
 
-pub returns-in_default-read-clause-step : goal.returns-in_default-read-clause-step
-returns-in_default-read-clause-step g c = c.unknown.ensures.inside _
+pub returns-in_default-2-clause-step : goal.returns-in_default-2-clause-step
+returns-in_default-2-clause-step g c = c.unknown.ensures.inside _
 
 pub returns-in_err-path-clause-step : goal.returns-in_err-path-clause-step
 returns-in_err-path-clause-step g c = let r = c.from_residual-in_err-path in world_memory _ _ r.result r.ensures.1 refl
@@ -61,8 +63,8 @@ returns-in-Some-clause-bytes g c = λ t. c.made.ensures.bytes _
 pub returns-in_err-check_members-clause-bytes : goal.returns-in_err-check_members-clause-bytes
 returns-in_err-check_members-clause-bytes g c = λ t. bytes_exit _ c.from_residual-in_err-check_members.result _ c.from_residual-in_err-check_members.ensures.1 (c.in_err-check_members.ensures.bytes t)
 
-pub returns-in_default-read-clause-bytes : goal.returns-in_default-read-clause-bytes
-returns-in_default-read-clause-bytes g c = λ t. c.unknown.ensures.bytes _
+pub returns-in_default-2-clause-bytes : goal.returns-in_default-2-clause-bytes
+returns-in_default-2-clause-bytes g c = λ t. c.unknown.ensures.bytes _
 
 pub returns-in_err-path-clause-bytes : goal.returns-in_err-path-clause-bytes
 returns-in_err-path-clause-bytes g c = λ t. bytes_memory _ c.from_residual-in_err-path.result c.from_residual-in_err-path.ensures.1
@@ -87,3 +89,13 @@ pub returns-then-branch-clause-stops : goal.returns-then-branch-clause-stops
 returns-then-branch-clause-stops g c =
     let is_unknown = IsUnknownAs c.node_request.new.graph c.args.word.now in
     ends_weaker NamesNone is_unknown c.node_request.result (none_as is_unknown) c.node_request.ensures.stops
+
+pub returns-clause-stops : goal.returns-clause-stops
+returns-clause-stops g c =
+    let old = c.args.graph.now in
+    let new = c.file_request.new.graph in
+    let word = c.args.word.now in
+    let none : members_of old.aliases word ≡ None = search rules in
+    let target : is_target old (spelling old.top word) ≡ false = search rules in
+    let unknown = unknown_path old word word refl none (λ path. target) in
+    ends_weaker (IsWordIn old new word) (IsUnknownAs new word) c.file_request.result (λ other is. unknown_at old new word other unknown is) c.file_request.ensures.stops
