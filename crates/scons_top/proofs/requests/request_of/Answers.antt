@@ -96,6 +96,6 @@ returns-clause-stops g c =
     let new = c.file_request.new.graph in
     let word = c.args.word.now in
     let none : members_of old.aliases word ≡ None = search rules in
-    let target : is_target old (spelling old.top word) ≡ false = search rules in
+    let target : is_target old (spelling old.top word) ≡ false = search (rules, c.in_ok-has_rule.ensures.none) in
     let unknown = unknown_path old word word refl none (λ path. target) in
     ends_weaker (IsWordIn old new word) (IsUnknownAs new word) c.file_request.result (λ other is. unknown_at old new word other unknown is) c.file_request.ensures.stops
