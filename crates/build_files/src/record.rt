@@ -23,7 +23,7 @@ ghost use Rattle.world_api.specs.Reads.{stamp_of};
 use crate::end::ListEnd;
 use crate::inputs::{Inputs, is_file_at, stamp_at};
 use crate::lookup::{path_of, rule_at};
-use deciders::{Dep, Rec, changed, rec_of};
+use deciders::{Dep, Rec, Spelt, has_changed, rec_of};
 use rule_graph::Graph;
 use scons_base::{Listing, Memory, NodeId, PathText, Paths, RuleId};
 use sign_store::{Store, View};
@@ -35,7 +35,7 @@ pub trait Records {
     ghost map: { Self → Map };
 
     /// The record of a path.
-    fn record(&self, path: &PathText) -> Option<&Rec>
+    fn record(&self, path: &PathText) -> Option<&Spelt>
         ensures { option_copied result ≡ map self.now path.now };
 
     /// The records of copies.
@@ -46,7 +46,7 @@ pub trait Records {
 impl Records for Store {
     ghost map = { map_of };
 
-    fn record(&self, path: &PathText) -> Option<&Rec> {
+    fn record(&self, path: &PathText) -> Option<&Spelt> {
         self.get(path)
     }
 
@@ -58,7 +58,7 @@ impl Records for Store {
 impl Records for View {
     ghost map = { map_of_view };
 
-    fn record(&self, path: &PathText) -> Option<&Rec> {
+    fn record(&self, path: &PathText) -> Option<&Spelt> {
         self.get(path)
     }
 
@@ -211,7 +211,7 @@ pub fn is_stale<W: World, R: Records>(
         if !is_file_at(world, target)? {
             return Ok(true);
         }
-        if !has_record(records, target, rule.decider, now, made) {
+        if !has_record(records, target, rule.decider, now, made)? {
             return Ok(true);
         }
     }
@@ -225,13 +225,13 @@ fn has_record<R: Records>(
     decider: Decider,
     now: &Rec,
     made: Option<u64>,
-) -> bool
-    ensures kept { HaveOwnDigests (R.map records.now) → HasOwnDigests now.now → (bytes : List ℕ)
-        → result ≡ not (is_due_for (decider_of decider) made (record_in now.now) (Some bytes) (records_in (R.map records.now) target.now)) }
+) -> Result<bool, Memory>
+    ensures kept { HaveOwnDigests (R.map records.now) → HasOwnDigests now.now → (bytes : List ℕ) → IfOk result
+        (λ kept. kept ≡ not (is_due_for (decider_of decider) made (record_in now.now) (Some bytes) (records_in (R.map records.now) target.now))) }
 {
     match records.record(target) {
-        Some(old) => !changed(decider, old, now, made),
-        None => false,
+        Some(old) => Ok(!has_changed(decider, old, now, made)?),
+        None => Ok(false),
     }
 }
 

@@ -74,12 +74,30 @@ fn reason_of_rule<W: World>(
     let mut first = None;
     for (place, target) in targets.iter().enumerate() {
         let present = is_file(world, target)?;
-        let old = store.get(target);
+        let old = recorded(store, target)?;
         let place = number_of(place)?;
-        let found = reason_of(rule.decider, rule.always, now, place, present, stamp, old);
+        let found = reason_of(
+            rule.decider,
+            rule.always,
+            now,
+            place,
+            present,
+            stamp,
+            old.as_ref(),
+        );
         first = least_of(first, found);
     }
     Ok(first)
+}
+
+/// The record of a path.
+fn recorded(store: &Store, path: &PathText) -> Result<Option<Rec>, Memory>
+    ensures { IfOk result (λ rec. rec ≡ map_of store.now path.now) }
+{
+    match store.get(path) {
+        Some(spelt) => Ok(Some(spelt.read()?)),
+        None => Ok(None),
+    }
 }
 
 fn number_of(place: usize) -> Result<u32, Memory>
@@ -142,8 +160,8 @@ fn line_of(
         return Ok(String::new(alloc));
     };
     let old = match now.targets.as_slice().get(place_of(reason) as usize) {
-        Some(target) => store.get(target),
+        Some(target) => recorded(store, target)?,
         None => None,
     };
-    reason_text(alloc, &reason, now, old)
+    reason_text(alloc, &reason, now, old.as_ref())
 }

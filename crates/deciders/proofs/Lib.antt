@@ -4,3 +4,4 @@ pub mod Takings
 pub mod Parts
 pub mod RecordLaws
 pub mod Anys
+pub mod Spelts

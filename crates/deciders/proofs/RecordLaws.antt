@@ -50,7 +50,7 @@ parts_take version bytes rec rest fits e =
     let made : Rec × List ℕ = (record { work = a.0.0; hash = h.0.0; targets = b.0.0; signed = c.0.0; deps = d.0.0 }, d.0.1) in
     subst (λ (y : Rec × List ℕ). Takes bytes (spelling version y.0) y.1 × IsSpellable y.0 × HasHash version y.0.hash) (some_is made (rec, rest) d.2) (e03, record { targets = t1.1; signed = t2.1; deps = deps }, th.1)
 
-parts_again : (version : Version) (rec : Rec) → IsSpellable rec → HasHash version rec.hash → list_all (is_by rec.hash) rec.deps ≡ true → parts_of version (spelling version rec) ≡ Some (rec, [])
+pub parts_again : (version : Version) (rec : Rec) → IsSpellable rec → HasHash version rec.hash → list_all (is_by rec.hash) rec.deps ≡ true → parts_of version (spelling version rec) ≡ Some (rec, [])
 unfolding parts_of
 parts_again version rec fits hash by =
     let first = hash_spelling version rec.hash in

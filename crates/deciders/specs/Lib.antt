@@ -3,3 +3,4 @@ pub mod Records
 pub mod Spelling
 pub mod Reading
 pub mod Changes
+pub mod Spelt

@@ -82,7 +82,7 @@ fn counted_deps(alloc: Global, hash: Hash, bytes: &[u8]) -> Result<(Listing<Dep>
 
 /// A record, whatever it names, and what follows it.
 #[tactic(auto, unfolding(crate::specs::Reading::parts_of))]
-fn parts_of(alloc: Global, version: Version, bytes: &[u8]) -> Result<(Rec, &[u8]), Unread>
+pub(crate) fn parts_of(alloc: Global, version: Version, bytes: &[u8]) -> Result<(Rec, &[u8]), Unread>
     ensures { Gives (λ x. (x.0, x.1.now)) result (parts_of version bytes.now) }
 {
     let (work, rest) = work_at(bytes)?;

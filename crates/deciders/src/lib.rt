@@ -1,7 +1,8 @@
 //! What is recorded of a rule, the one spelling of each record, and when a rule has changed.
 //!
 //! A record holds the rule's action, the function of its digests and, for each dependency in order, its name with the
-//! digest and the time of change of what it held. Contracts see a `Rec` as these lists.
+//! digest and the time of change of what it held. Contracts see a `Rec` as these lists, and so they see a `Spelt`, which keeps a
+//! record as its spelling.
 #![tactic(auto)]
 
 mod changes;
@@ -12,6 +13,7 @@ mod fields;
 mod lengths;
 mod names;
 mod recorded;
+mod spelt;
 mod unread;
 mod version;
 
@@ -21,4 +23,5 @@ pub use decoding::{decode, decode_paths, is_valid};
 pub use encoding::{encode, push_paths, push_record};
 pub use lengths::{paths_len, spelled_len};
 pub use recorded::{Dep, Rec, rec_of};
+pub use spelt::{Spelt, has_changed};
 pub use version::Version;

@@ -9,7 +9,7 @@ use crate::below::Below;
 use crate::dry_step::view_of;
 use crate::stop::Stop;
 use build_files::{ListEnd, is_copied, is_leftover};
-use deciders::Rec;
+use deciders::Spelt;
 use rule_graph::Graph;
 use scons_base::PathText;
 use sign_store::View;
@@ -87,13 +87,13 @@ fn has_leftover<W: World>(
     ensures cause { HasLookCause (W.meaning.counts world.old) (W.meaning.counts world.new) result }
 {
     match recorded(view, path) {
-        Some(rec) => is_leftover(world, graph, rec),
+        Some(spelt) => is_leftover(world, graph, &spelt.read()?),
         None => Ok(false),
     }
 }
 
 /// The record of a path.
-fn recorded<'a>(view: &'a Option<View>, path: &PathText) -> Option<&'a Rec> {
+fn recorded<'a>(view: &'a Option<View>, path: &PathText) -> Option<&'a Spelt> {
     match view {
         Some(view) => view.get(path),
         None => None,

@@ -9,8 +9,8 @@ ghost use Rattle.sign_store.specs.Tables.{nothing};
 
 use crate::head::{Edition, MARK};
 use crate::map::RecordMap;
-use crate::ticket::{push_put, push_withdraw};
-use deciders::{Rec, Version, paths_len, spelled_len};
+use crate::ticket::{push_spelt, push_withdraw};
+use deciders::{Spelt, Version, paths_len};
 use scons_base::limits::PAYLOAD_LIMIT;
 use scons_base::{Memory, PathText};
 use std::alloc::Global;
@@ -100,7 +100,7 @@ fn push_entries(
     let Some(rec) = map.record_at(number) else {
         return Ok(());
     };
-    if !map.holds_any(rec.targets.as_slice(), number) {
+    if !map.holds_any(rec.targets(), number) {
         return Ok(());
     }
     push_record_entries(alloc, form, map, number, rec)
@@ -112,25 +112,22 @@ fn push_record_entries(
     form: &mut Vec<u8>,
     map: &RecordMap,
     number: usize,
-    rec: &Rec,
+    rec: &Spelt,
 ) -> Result<(), Memory>
     ensures { IsWhole rec.now → OnOk result (form.new.items ≡ form.old.items ++ put_entries map.now number rec.now) }
 {
     push_put_entry(form, rec)?;
     let mut lost = Vec::new(alloc);
-    push_lost(&mut lost, map, number, rec.targets.as_slice())?;
+    push_lost(&mut lost, map, number, rec.targets())?;
     push_withdraw_entry(form, lost.as_slice())
 }
 
-/// Adds an entry that puts a record. One that is too long for an entry was read of none.
-fn push_put_entry(form: &mut Vec<u8>, rec: &Rec) -> Result<(), Memory>
-    ensures { IsWhole rec.now → OnOk result (form.new.items ≡ form.old.items ++ 1 ∷ entry_of (put_payload rec.now)) }
+/// Adds an entry that puts a record.
+fn push_put_entry(form: &mut Vec<u8>, rec: &Spelt) -> Result<(), Memory>
+    ensures { OnOk result (form.new.items ≡ form.old.items ++ 1 ∷ entry_of (put_payload rec.now)) }
 {
-    if spelled_len(Version::Two, rec) >= PAYLOAD_LIMIT {
-        return Ok(());
-    }
     form.push(1)?;
-    push_put(form, rec)
+    push_spelt(form, rec)
 }
 
 /// Adds an entry that withdraws the records of these paths, where there is one.

@@ -5,7 +5,6 @@ ghost use Rattle.std.specs.List.{flat_map};
 ghost use Rattle.sign_store.specs.Compacts.{all_entries, compact_bytes, entries_at, lost_among, withdrawal_of};
 
 use crate::map::RecordMap;
-use deciders::{Version, spelled_len};
 use scons_base::PathText;
 
 /// What an entry has beside its record or its paths: the gate, four bytes of length, and which change it is.
@@ -36,11 +35,11 @@ fn entries_len(map: &RecordMap, number: usize) -> u64
     let Some(rec) = map.record_at(number) else {
         return 0;
     };
-    if !map.holds_any(rec.targets.as_slice(), number) {
+    if !map.holds_any(rec.targets(), number) {
         return 0;
     }
-    let put = spelled_len(Version::Two, rec).saturating_add(ENTRY_FRAME);
-    put.saturating_add(withdrawal_len(map, number, rec.targets.as_slice()))
+    let put = rec.as_bytes().len() as u64 + ENTRY_FRAME;
+    put.saturating_add(withdrawal_len(map, number, rec.targets()))
 }
 
 /// The same of the withdrawal of those of these paths that have another record or none, where there are such.

@@ -7,7 +7,7 @@ ghost use Rattle.world_api.specs.declared.job.Work.TheVariants.{Copy};
 use crate::map::RecordMap;
 use crate::store::Store;
 use crate::view::View;
-use deciders::Rec;
+use deciders::{Rec, Spelt};
 use scons_base::{Listing, Memory};
 use std::alloc::Global;
 use world_api::Work;
@@ -60,18 +60,18 @@ impl RecordMap {
         let Some(rec) = self.record_at(number) else {
             return Ok(());
         };
-        if is_copy(rec) && self.holds_any(rec.targets.as_slice(), number) {
-            copies.push(rec.copy()?)?;
+        if is_copy(rec) && self.holds_any(rec.targets(), number) {
+            copies.push(rec.read()?)?;
         }
         Ok(())
     }
 }
 
-fn is_copy(rec: &Rec) -> bool
+fn is_copy(rec: &Spelt) -> bool
     ensures only { result ≡ true → rec.now.work ≡ Copy }
     ensures all { rec.now.work ≡ Copy → result ≡ true }
 {
-    match rec.work {
+    match rec.work() {
         Work::Copy => true,
         Work::Shell | Work::Write => false,
     }

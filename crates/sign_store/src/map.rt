@@ -1,10 +1,11 @@
-//! Records by their targets. A record is kept once, whatever the number of its targets; a look-up is one by hash.
+//! Records by their targets. A record is kept once, as its spelling, whatever the number of its targets; a look-up is one by
+//! hash.
 ghost use Rattle.std.specs.Prelude.{◌≡◌, ◌<◌, ◌+◌, ℕ, List, None, Some, [], ◌++◌, ◌∷◌, true, false, length, vec_len, slice_get, option_copied, OnErr, OnOk, IfOk};
 ghost use Rattle.std.specs.List.{list_any};
 ghost use Rattle.std.specs.Option.{is_some};
 ghost use Rattle.sign_store.specs.Tables.{number_in, nothing, has_any, HasPlaceOf, KeepsPlaces, WritesEach, WritesOne, Enters};
 
-use deciders::Rec;
+use deciders::{Rec, Spelt};
 use indexmap::IndexMap;
 use scons_base::{Memory, PathText};
 use std::alloc::Global;
@@ -13,7 +14,7 @@ use std::alloc::Global;
 #[derive(Drop)]
 pub(crate) struct RecordMap {
     table: IndexMap<PathText, Option<usize>>,
-    records: Vec<Rec>,
+    records: Vec<Spelt>,
     ghost known: { (path : List ℕ) (number : ℕ) → number_in table path ≡ Some number → number < vec_len records },
 }
 
@@ -32,14 +33,14 @@ impl RecordMap {
     }
 
     /// The record of a path.
-    pub(crate) fn get(&self, path: &PathText) -> Option<&Rec>
+    pub(crate) fn get(&self, path: &PathText) -> Option<&Spelt>
         ensures { option_copied result ≡ map_in self.now path.now }
     {
         let number = (*self.table.get(path)?)?;
         self.records.get(number)
     }
 
-    pub(crate) fn records(&self) -> &[Rec]
+    pub(crate) fn records(&self) -> &[Spelt]
         ensures { result.now ≡ self.now.records.items }
     {
         self.records.as_slice()
@@ -71,9 +72,10 @@ impl RecordMap {
         ensures numbers { (path : List ℕ) → number_in self.new.table path ≡ number_in self.old.table path }
         ensures keeps { (other : Rec) (number : ℕ) → HasRecord self.old other number → HasRecord self.new other number }
     {
-        enter_each(&mut self.table, rec.targets.as_slice())?;
+        let spelt = Spelt::of(*self.records.allocator(), rec)?;
+        enter_each(&mut self.table, spelt.targets())?;
         let number = self.records.len();
-        self.records.push(rec)?;
+        self.records.push(spelt)?;
         Ok(number)
     }
 
@@ -97,7 +99,7 @@ impl RecordMap {
         let Some(rec) = self.records.get(number) else {
             return;
         };
-        write_each(&mut self.table, rec.targets.as_slice(), Some(number));
+        write_each(&mut self.table, rec.targets(), Some(number));
     }
 
     /// Takes away what record each target of a record has.
@@ -108,7 +110,7 @@ impl RecordMap {
         let Some(rec) = self.records.get(number) else {
             return;
         };
-        write_each(&mut self.table, rec.targets.as_slice(), None);
+        write_each(&mut self.table, rec.targets(), None);
     }
 
     /// Takes away the records of these paths.
@@ -125,13 +127,13 @@ impl RecordMap {
         ensures { (rec : Rec) → HasRecord self.now rec number → result ≡ has_any (map_in self.now) rec.targets }
     {
         match self.record_at(number) {
-            Some(rec) => self.has_some(rec.targets.as_slice()),
+            Some(rec) => self.has_some(rec.targets()),
             None => false,
         }
     }
 
     /// The record of a number.
-    pub(crate) fn record_at(&self, number: usize) -> Option<&Rec>
+    pub(crate) fn record_at(&self, number: usize) -> Option<&Spelt>
         ensures { option_copied result ≡ slice_get self.now.records.items number }
     {
         self.records.get(number)

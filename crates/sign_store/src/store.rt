@@ -21,7 +21,7 @@ use crate::opening::{Opened, open, read_map};
 use crate::refusals::{PrepareRefusal, StoreRefusal};
 use crate::ticket::{Ticket, Ticketed, put_entry, withdraw_entry};
 use crate::view::View;
-use deciders::{Rec, Version, paths_len, spelled_len};
+use deciders::{Rec, Spelt, Version, paths_len, spelled_len};
 use scons_base::limits::{BANK_LIMIT, PAYLOAD_LIMIT};
 use scons_base::{Memory, PathText};
 use std::alloc::Global;
@@ -115,7 +115,7 @@ impl Store {
     }
 
     /// The record of a path.
-    pub fn get(&self, path: &PathText) -> Option<&Rec>
+    pub fn get(&self, path: &PathText) -> Option<&Spelt>
         ensures { option_copied result ≡ map_of self.now path.now }
     {
         self.map.get(path)

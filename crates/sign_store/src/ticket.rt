@@ -4,7 +4,7 @@ ghost use Rattle.deciders.specs.declared.version.Version.TheVariants as version;
 ghost use Rattle.deciders.specs.Spelling.{sized, listed, spelling, IsSpellable};
 ghost use Rattle.sign_store.specs.Entries.{entry_of, put_payload, withdraw_payload};
 
-use deciders::{Rec, Version, paths_len, push_paths, push_record, spelled_len};
+use deciders::{Rec, Spelt, Version, paths_len, push_paths, push_record, spelled_len};
 use scons_base::{Memory, PathText};
 use std::alloc::Global;
 
@@ -61,6 +61,18 @@ pub(crate) fn push_put(out: &mut Vec<u8>, rec: &Rec) -> Result<(), Memory>
     out.extend_from_slice(&len.to_be_bytes())?;
     out.push(1)?;
     push_record(out, Version::Two, rec)
+}
+
+/// The same of a put whose record is kept as its spelling.
+pub(crate) fn push_spelt(out: &mut Vec<u8>, rec: &Spelt) -> Result<(), Memory>
+    ensures { OnOk result (out.new.items ≡ out.old.items ++ entry_of (put_payload rec.now)) }
+{
+    let bytes = rec.as_bytes();
+    let len = bytes.len() as u32 + 1;
+    out.extend_from_slice(&len.to_be_bytes())?;
+    out.push(1)?;
+    out.extend_from_slice(bytes)?;
+    Ok(())
 }
 
 /// The same of a withdrawal.

@@ -2,7 +2,7 @@
 ghost use Rattle.std.specs.Prelude.{◌≡◌, option_copied};
 
 use crate::map::RecordMap;
-use deciders::Rec;
+use deciders::Spelt;
 use scons_base::PathText;
 
 /// What the banks stand for.
@@ -15,7 +15,7 @@ impl View {
     ghost use Rattle.sign_store.specs.Stores.{map_of_view};
 
     /// The record of a path.
-    pub fn get(&self, path: &PathText) -> Option<&Rec>
+    pub fn get(&self, path: &PathText) -> Option<&Spelt>
         ensures { option_copied result ≡ map_of_view self.now path.now }
     {
         self.map.get(path)

@@ -2,7 +2,7 @@
 use crate::disk::Banks;
 use crate::fields::{bank_of, long_number, pair};
 use crate::readings::put_readings;
-use crate::shown::{put_count, put_found, put_hex, put_refusal};
+use crate::shown::{put_count, put_kept, put_hex, put_refusal};
 use crate::spoilt::{put_cuts, put_flips};
 use crate::stops::put_stops;
 use crate::tally::put_tally;
@@ -93,7 +93,7 @@ fn put_shown(told: &mut Told, banks: &Banks, bank: &str) {
 
 fn put_read(alloc: Global, told: &mut Told, banks: &mut Banks, path: &PathText) {
     match Store::read(alloc, banks) {
-        Ok(view) => put_found(told, view.get(path)),
+        Ok(view) => put_kept(told, view.get(path)),
         Err(refusal) => put_refusal(told, refusal),
     }
 }

@@ -3,7 +3,7 @@ use crate::disk::Banks;
 use crate::draws::Draws;
 use crate::fields::pair;
 use crate::mutations::spoilt;
-use crate::shown::{put_record, put_refusal};
+use crate::shown::{put_refusal, put_spelt};
 use crate::tally::names_in;
 use sign_store::{Store, View};
 use std::alloc::Global;
@@ -33,7 +33,7 @@ fn put_map(alloc: Global, told: &mut Told, banks: &Banks, view: &View) {
     for name in names.as_slice() {
         if let Some(rec) = view.get(name) {
             told.put_all(&["- ", name.as_str(), ": "]);
-            put_record(told, rec);
+            put_spelt(told, rec);
         }
     }
 }

@@ -5,7 +5,7 @@ use crate::disk::Banks;
 use crate::fields::pair;
 use crate::puts::{put_again, put_many};
 use crate::record::record_of;
-use crate::shown::{put_found, put_refusal, put_size};
+use crate::shown::{put_kept, put_refusal, put_size};
 use scons_base::PathText;
 use sign_store::{PrepareRefusal, Store, Ticket, Ticketed};
 use std::alloc::Global;
@@ -81,7 +81,7 @@ impl Rows {
 
     fn get(&self, alloc: Global, told: &mut Told, path: &str) {
         match (&self.store, PathText::read(alloc, path)) {
-            (Some(store), Ok(path)) => put_found(told, store.get(&path)),
+            (Some(store), Ok(path)) => put_kept(told, store.get(&path)),
             _ => told.refuse(),
         }
     }

@@ -1,5 +1,5 @@
 //! How rows show what they give.
-use deciders::{Dep, Rec};
+use deciders::{Dep, Rec, Spelt};
 use scons_base::{PathText, Text};
 use sign_store::StoreRefusal;
 use trial_text::Told;
@@ -25,11 +25,27 @@ pub(crate) fn put_hex(told: &mut Told, bytes: &[u8]) {
     }
 }
 
-/// What was found of a path.
+/// What was found in bytes.
 pub(crate) fn put_found(told: &mut Told, found: Option<&Rec>) {
     match found {
         Some(rec) => put_record(told, rec),
         None => told.put("none\n"),
+    }
+}
+
+/// What is kept of a path.
+pub(crate) fn put_kept(told: &mut Told, kept: Option<&Spelt>) {
+    match kept {
+        Some(spelt) => put_spelt(told, spelt),
+        None => told.put("none\n"),
+    }
+}
+
+/// A record that is kept as its spelling.
+pub(crate) fn put_spelt(told: &mut Told, spelt: &Spelt) {
+    match spelt.read() {
+        Ok(rec) => put_record(told, &rec),
+        Err(_) => told.refuse(),
     }
 }
 

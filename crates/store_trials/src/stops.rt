@@ -4,7 +4,7 @@ use crate::fields::keep_path;
 use crate::puts::is_put;
 use crate::record::record_of;
 use crate::runs::put_runs;
-use crate::shown::{put_found, put_refusal};
+use crate::shown::{put_kept, put_refusal};
 use crate::tally::is_begun_as;
 use deciders::Rec;
 use scons_base::PathText;
@@ -221,7 +221,7 @@ fn put_read(alloc: Global, told: &mut Told, banks: &mut Banks, targets: &[PathTe
             } else if targets.len() > 1 {
                 put_which(told, &view, targets);
             } else {
-                put_found(told, view.get(path));
+                put_kept(told, view.get(path));
             }
         }
         Err(refusal) => put_refusal(told, refusal),

@@ -4,7 +4,7 @@ use crate::draws::Draws;
 use crate::fields::pair;
 use crate::mutations::spoilt;
 use crate::shown::put_count;
-use deciders::{Rec, same};
+use deciders::Spelt;
 use scons_base::{PathFault, PathText};
 use sign_store::{Store, StoreRefusal, View};
 use std::alloc::Global;
@@ -138,9 +138,9 @@ fn are_one(view: &View, store: &Store, after: &View, names: &[PathText]) -> bool
     true
 }
 
-fn is_one(a: Option<&Rec>, b: Option<&Rec>) -> bool {
+fn is_one(a: Option<&Spelt>, b: Option<&Spelt>) -> bool {
     match (a, b) {
-        (Some(a), Some(b)) => same(a, b),
+        (Some(a), Some(b)) => a.as_bytes() == b.as_bytes(),
         (None, None) => true,
         _ => false,
     }

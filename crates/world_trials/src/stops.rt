@@ -2,7 +2,7 @@
 use crate::calls::disk_call;
 use crate::held::bare_world;
 use crate::shown::{put_bytes, put_hex};
-use deciders::{Dep, Rec};
+use deciders::{Dep, Rec, Spelt};
 use scons_base::PathText;
 use sign_store::Store;
 use std::alloc::Global;
@@ -100,10 +100,17 @@ pub(crate) fn put_record(alloc: Global, told: &mut Told, world: &mut MemWorld, p
     }
 }
 
-fn put_digest(told: &mut Told, found: Option<&Rec>) {
-    let Some(rec) = found else {
+fn put_digest(told: &mut Told, found: Option<&Spelt>) {
+    let Some(spelt) = found else {
         return told.put("none");
     };
+    match spelt.read() {
+        Ok(rec) => put_first_digest(told, &rec),
+        Err(_) => told.refuse(),
+    }
+}
+
+fn put_first_digest(told: &mut Told, rec: &Rec) {
     match rec.deps.as_slice().first() {
         Some(
             Dep {

@@ -10,6 +10,6 @@ pub returns-in-Some : goal.returns-in-Some
 returns-in-Some g c = record {
   kept = λ own this bytes.
       let there : Some c.in-Some.old.now ≡ g.R.Records.map c.args.records.now c.args.target.now = c.in-Some.ensures in
-      ap not (changed_same c.args.decider c.args.made c.in-Some.old.now c.args.now.now c.changed.result (own c.args.target.now c.in-Some.old.now (sym there)) this c.changed.ensures)
+      ap not (changed_same c.args.decider c.args.made c.in-Some.old.now c.args.now.now c.in_ok-has_changed.field-0 (own c.args.target.now c.in-Some.old.now (sym there)) this c.in_ok-has_changed.ensures)
       ∙ ap (λ o. not (is_due_for (decider_of c.args.decider) c.args.made (record_in c.args.now.now) (Some bytes) (option_map record_in o))) there;
 }

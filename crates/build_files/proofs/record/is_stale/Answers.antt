@@ -10,8 +10,11 @@ returns-in_err-is_file_at-clause-looks g c = looks_joined _ _ _ _ c.loop-target.
 pub returns-then-not-branch-clause-looks : goal.returns-then-not-branch-clause-looks
 returns-then-not-branch-clause-looks g c = looks_joined _ _ _ _ c.loop-target.invariant.looks c.is_file_at.ensures.looks
 
-pub returns-then-not-has_record-clause-looks : goal.returns-then-not-has_record-clause-looks
-returns-then-not-has_record-clause-looks g c = looks_joined _ _ _ _ c.loop-target.invariant.looks c.is_file_at.ensures.looks
+pub returns-in_err-has_record-clause-looks : goal.returns-in_err-has_record-clause-looks
+returns-in_err-has_record-clause-looks g c = looks_joined _ _ _ _ c.loop-target.invariant.looks c.is_file_at.ensures.looks
+
+pub returns-then-not-branch-2-clause-looks : goal.returns-then-not-branch-2-clause-looks
+returns-then-not-branch-2-clause-looks g c = looks_joined _ _ _ _ c.loop-target.invariant.looks c.is_file_at.ensures.looks
 
 pub loop-target-preserved : goal.loop-target-preserved
 loop-target-preserved g c =
@@ -26,11 +29,11 @@ loop-target-preserved g c =
           let at : c.target-item.result ≡ get_or c.args.now.now.targets c.loop-target.target-index c.target-item.result =
           c.target-item.is ∙ ap (λ (ps : List (List ℕ)). get_or ps c.loop-target.target-index c.target-item.result) c.as_slice-target-items.ensures in
           let passed = test_some c.in_ok-rule.rule.now.decider c.in_ok-made.made c.args.now.now (g.R.Records.map c.args.records.now) around (g.W.Disk.meaning.around c.is_file_at.new.world)
-          c.loop-target.target-index c.target-item.result idle (looks.around told) within at c.in_ok-is_file_at.field-0 c.has_record.result
-          (c.in_ok-is_file_at.ensures.stands told) c.if-not-branch.false (c.has_record.ensures.kept own this) in
+          c.loop-target.target-index c.target-item.result idle (looks.around told) within at c.in_ok-is_file_at.field-0 c.in_ok-has_record.field-0
+          (c.in_ok-is_file_at.ensures.stands told) c.if-not-branch.false (c.in_ok-has_record.ensures.kept own this) in
           tests_more c.in_ok-rule.rule.now.decider c.in_ok-made.made c.args.now.now (g.R.Records.map c.args.records.now) around (g.W.Disk.meaning.around c.is_file_at.new.world)
           c.loop-target.target-index c.target-item.result idle (looks.around told) within at
-          (c.loop-target.invariant.spared (c.is_file_at.ensures.looks.told.told told) idle own this) (passed ∙ ap not c.if-not-has_record.false);
+          (c.loop-target.invariant.spared (c.is_file_at.ensures.looks.told.told told) idle own this) (passed ∙ ap not c.if-not-branch-2.false);
     }
 
 pub returns-then-rule-clause-due : goal.returns-then-rule-clause-due
@@ -55,8 +58,8 @@ returns-then-not-branch-clause-due g c = λ told idle own this b r grown is targ
     (test_none x.decider c.in_ok-made.made c.args.now.now kept around (g.W.Disk.meaning.around c.is_file_at.new.world) c.loop-target.target-index c.target-item.result idle
     (looks.around told) within at c.in_ok-is_file_at.field-0 (c.in_ok-is_file_at.ensures.stands told) c.if-not-branch.true)
 
-pub returns-then-not-has_record-clause-due : goal.returns-then-not-has_record-clause-due
-returns-then-not-has_record-clause-due g c = λ told idle own this b r grown is targets.
+pub returns-then-not-branch-2-clause-due : goal.returns-then-not-branch-2-clause-due
+returns-then-not-branch-2-clause-due g c = λ told idle own this b r grown is targets.
     let looks = looks_joined _ _ _ _ c.loop-target.invariant.looks c.is_file_at.ensures.looks in
     let around = g.W.Disk.meaning.around c.args.world.now in
     let kept = g.R.Records.map c.args.records.now in
@@ -70,8 +73,8 @@ returns-then-not-has_record-clause-due g c = λ told idle own this b r grown is 
     (first_made g.W.Disk.meaning c.args.world.now c.made_at.new.world x.decider c.in_ok-made.made c.as_slice.result.now c.args.now.now.targets c.made_at.ensures.looks begun idle
     c.as_slice.ensures (c.in_ok-made.ensures.stamp begun)) within at
     (test_some x.decider c.in_ok-made.made c.args.now.now kept around (g.W.Disk.meaning.around c.is_file_at.new.world) c.loop-target.target-index c.target-item.result idle
-    (looks.around told) within at c.in_ok-is_file_at.field-0 c.has_record.result (c.in_ok-is_file_at.ensures.stands told) c.if-not-branch.false
-    (c.has_record.ensures.kept own this) ∙ ap not c.if-not-has_record.true)
+    (looks.around told) within at c.in_ok-is_file_at.field-0 c.in_ok-has_record.field-0 (c.in_ok-is_file_at.ensures.stands told) c.if-not-branch.false
+    (c.in_ok-has_record.ensures.kept own this) ∙ ap not c.if-not-branch-2.true)
 
 pub returns-clause-due : goal.returns-clause-due
 returns-clause-due g c = λ told idle own this b r grown is targets.

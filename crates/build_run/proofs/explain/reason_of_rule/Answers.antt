@@ -22,6 +22,14 @@ returns-in_err-present-clause-stays g c =
     looked_at g.W.Disk.meaning _ _ c.is_file.result (looks_joined _ _ _ _ c.loop-place.invariant.looks c.is_file.ensures.looks)
     (cause_on _ _ _ c.is_file.result c.loop-place.invariant.counts c.is_file.ensures.cause)
 
+pub returns-in_err-old-clause-looks : goal.returns-in_err-old-clause-looks
+returns-in_err-old-clause-looks g c = looks_joined _ _ _ _ c.loop-place.invariant.looks c.is_file.ensures.looks
+
+pub returns-in_err-old-clause-stays : goal.returns-in_err-old-clause-stays
+returns-in_err-old-clause-stays g c =
+    looked_at g.W.Disk.meaning _ _ c.is_file.result (looks_joined _ _ _ _ c.loop-place.invariant.looks c.is_file.ensures.looks)
+    (cause_on _ _ _ c.is_file.result c.loop-place.invariant.counts c.is_file.ensures.cause)
+
 pub returns-in_err-place-clause-stays : goal.returns-in_err-place-clause-stays
 returns-in_err-place-clause-stays g c =
     looked_at g.W.Disk.meaning _ _ c.is_file.result (looks_joined _ _ _ _ c.loop-place.invariant.looks c.is_file.ensures.looks)
@@ -52,8 +60,8 @@ loop-place-preserved g c =
           subst (λ (r : Option Reason). IsLeastSoFar x kept now old (i + 1) r) (sym c.least_of-first.ensures)
           (least_next x kept now old (m.around c.is_file.new.world) idle (looks.around told) i p
           (slice_get_read now.targets (length now.targets) i p refl within at)
-          c.loop-place.first c.reason_of-found.result c.in_ok-present.present c.in_ok-stamp.stamp (option_copied c.get-old.result)
-          (c.loop-place.invariant.least before idle) (c.in_ok-present.ensures.stands told) stamp c.get-old.ensures
-          (subst (λ (n : ℕ). IsReason x.decider x.always now n c.in_ok-present.present c.in_ok-stamp.stamp (option_copied c.get-old.result) c.reason_of-found.result)
+          c.loop-place.first c.reason_of-found.result c.in_ok-present.present c.in_ok-stamp.stamp (option_copied c.as_ref.result)
+          (c.loop-place.invariant.least before idle) (c.in_ok-present.ensures.stands told) stamp (c.as_ref.ensures.value ∙ c.in_ok-old.ensures)
+          (subst (λ (n : ℕ). IsReason x.decider x.always now n c.in_ok-present.present c.in_ok-stamp.stamp (option_copied c.as_ref.result) c.reason_of-found.result)
           c.in_ok-place.ensures c.reason_of-found.ensures));
     }

@@ -30,20 +30,24 @@ returns-in_err-push-clause-keeps c = λ other number has. record {
 pub returns-clause-same : goal.returns-clause-same
 returns-clause-same c =
     same_map _ _ (λ path. ap (λ (records : List Rec). option_and_then (slice_get records) (number_in c.enter_each.new.table path)) c.in_ok-push.ensures.items
-    ∙ add_keeps c.args.self.now.records.items c.args.rec c.args.self.now.table c.enter_each.new.table (λ path number e. let below : number < vec_len c.args.self.now.records = c.args.self.now.known path number e in omega (arith, c.args.self.now.records.ok.0)) c.enter_each.ensures.same path)
+    ∙ add_keeps c.args.self.now.records.items c.in_ok-spelt.spelt c.args.self.now.table c.enter_each.new.table (λ path number e. let below : number < vec_len c.args.self.now.records = c.args.self.now.known path number e in omega (arith, c.args.self.now.records.ok.0)) c.enter_each.ensures.same path)
 
 pub returns-clause-record : goal.returns-clause-record
 returns-clause-record c =
     let place : c.len-number.result ≡ length c.args.self.now.records.items = omega (arith, c.len-number.ensures, c.args.self.now.records.ok.0) in
     record {
       record_at = ap (λ (records : List Rec). slice_get records c.len-number.result) c.in_ok-push.ensures.items
-          ∙ subst (λ n. slice_get (c.args.self.now.records.items ++ c.args.rec ∷ []) n ≡ Some c.args.rec) (sym place) (slice_get-last c.args.self.now.records.items c.args.rec);
-      places = subst (λ (paths : List (List ℕ)). Enters paths c.enter_each.new.table) c.as_slice.ensures c.in_ok-enter_each.ensures.places;
+          ∙ subst (λ n. slice_get (c.args.self.now.records.items ++ c.in_ok-spelt.spelt ∷ []) n ≡ Some c.in_ok-spelt.spelt) (sym place) (slice_get-last c.args.self.now.records.items c.in_ok-spelt.spelt)
+          ∙ ap Some c.in_ok-spelt.ensures;
+      places = subst (λ (paths : List (List ℕ)). Enters paths c.enter_each.new.table) (c.targets.ensures ∙ ap (λ (rec : Rec). rec.targets) c.in_ok-spelt.ensures) c.in_ok-enter_each.ensures.places;
     }
+
+pub returns-clause-records : goal.returns-clause-records
+returns-clause-records c = c.in_ok-push.ensures.items ∙ ap (λ (rec : Rec). c.args.self.now.records.items ++ rec ∷ []) c.in_ok-spelt.ensures
 
 pub returns-clause-keeps : goal.returns-clause-keeps
 returns-clause-keeps c = λ other number has. record {
   record_at = ap (λ (records : List Rec). slice_get records number) c.in_ok-push.ensures.items
-      ∙ stands_on c.args.self.now.records.items c.args.rec other number has.record_at;
+      ∙ stands_on c.args.self.now.records.items c.in_ok-spelt.spelt other number has.record_at;
   places = enters_on other.targets c.args.self.now.table c.enter_each.new.table c.enter_each.ensures.stay has.places;
 }

@@ -9,9 +9,9 @@ pub returns-in_ok-push-clause-each : goal.returns-in_ok-push-clause-each
 returns-in_ok-push-clause-each c = λ rec h.
     let work : c.in-Some.rec.now.work ≡ Copy = c.is_copy.ensures.only c.if-is_copy.true in
     let any : list_any (is_held c.args.self.now c.args.number) c.in-Some.rec.now.targets ≡ true =
-    ap (list_any (is_held c.args.self.now c.args.number)) (sym c.as_slice.ensures) ∙ sym c.holds_any.ensures ∙ c.if-holds_any.true in
-    pushed_in c.args.self.now c.args.number c.args.copies.now c.push.new.self c.in-Some.rec.now c.in_ok-copy.field-0 rec c.in-Some.ensures c.in_ok-copy.ensures c.in_ok-push.ensures.ok work any h
+    ap (list_any (is_held c.args.self.now c.args.number)) (sym c.targets.ensures) ∙ sym c.holds_any.ensures ∙ c.if-holds_any.true in
+    pushed_in c.args.self.now c.args.number c.args.copies.now c.push.new.self c.in-Some.rec.now c.in_ok-read.field-0 rec c.in-Some.ensures c.in_ok-read.ensures c.in_ok-push.ensures.ok work any h
 
 pub returns-in_ok-push-clause-at : goal.returns-in_ok-push-clause-at
 returns-in_ok-push-clause-at c = λ rec at work any.
-    pushed_at c.args.self.now c.args.number c.args.copies.now c.push.new.self c.in-Some.rec.now c.in_ok-copy.field-0 rec c.in-Some.ensures c.in_ok-copy.ensures c.in_ok-push.ensures.ok at
+    pushed_at c.args.self.now c.args.number c.args.copies.now c.push.new.self c.in-Some.rec.now c.in_ok-read.field-0 rec c.in-Some.ensures c.in_ok-read.ensures c.in_ok-push.ensures.ok at

@@ -11,7 +11,7 @@ returns-in-Some c = λ rec has.
     let found : Some c.in-Some.rec.now ≡ slice_get c.args.self.now.records.items c.args.number = c.in-Some.ensures in
     let at : slice_get c.args.self.now.records.items c.args.number ≡ Some rec = has.record_at in
     let same : c.in-Some.rec.now ≡ rec = cc (found, at) in
-    c.has_some.ensures ∙ ap (list_any (λ path. is_some (map_in c.args.self.now path))) (c.as_slice.ensures ∙ ap (λ (r : Rec). r.targets) same)
+    c.has_some.ensures ∙ ap (list_any (λ path. is_some (map_in c.args.self.now path))) (c.targets.ensures ∙ ap (λ (r : Rec). r.targets) same)
 
 pub returns-in-None : goal.returns-in-None
 returns-in-None c = λ rec has.
