@@ -160,13 +160,18 @@ MakesSafely m g run store world account options new = (s : Setting) →
 abbrev pub TellsTruth : {W : Type 0} → Meaning W → Setting → W → Type 0
 TellsTruth m s world = m.tells world → m.sure world → (banks : Banks) → IsImage m world banks → IsSafeMoment s (m.around world) banks
 
--- a build told the truth at every moment of it, and does so behind it
+-- actions make what the law says, where the world tells and is sure
+abbrev pub IsOfLawNow : {W : Type 0} → Meaning W → Setting → W → Type 0
+IsOfLawNow m s world = m.tells world → m.sure world → IsOfLaw s (m.around world)
+
+-- what stands told the truth at every moment between, and does so behind, where actions make what they made before
 pub record StaysTrue {W : Type 0} (m : Meaning W) (s : Setting) (old new : W) : Type 0 where
   pub moments : Surely m old new (IsSafeMoment s)
   pub now : TellsTruth m s new
+  pub law : IsOfLawNow m s new
 
 -- A build tells the truth wherever it is stopped, whatever it answers, where what stood before told the truth, nothing ran, and
 -- the requested nodes are the graph's. Of the world it is asked only that it tells and is sure.
 abbrev pub BuildsSafely : {W : Type 0} → Meaning W → Wanted → W → W → Type 0
-BuildsSafely m w old new = (s : Setting) → (m.tells old → IsOfLaw s (m.around old)) → TellsTruth m s old →
+BuildsSafely m w old new = (s : Setting) → IsOfLawNow m s old → TellsTruth m s old →
     are_below (length w.graph.nodes) w.requested ≡ true → StaysTrue m s old new
