@@ -4,6 +4,7 @@ use Rattle.std.specs.Prelude.{ℕ, Bool, true, false, List, [], ◌∷◌, Optio
 use Rattle.env_vars.specs.declared.value.EnvValue.{EnvValue}
 use Rattle.env_vars.specs.declared.value.EnvValue.TheVariants as value
 use Rattle.env_vars.specs.declared.place.Place.{Place}
+use Rattle.env_vars.specs.declared.place.Place.TheVariants as place
 use Rattle.env_vars.specs.Names.{is_late_variable}
 use Rattle.env_vars.specs.Added.{as_set, added}
 use Rattle.env_vars.specs.Vars.{Var, value_at, put, put_all}
@@ -77,3 +78,13 @@ with_added envs id name (Some v) = Some (with_var envs id (name, v))
 
 abbrev pub after_adding : Place → List Scope → ℕ → List ℕ → EnvValue → Option (List Scope)
 after_adding at envs id name v = with_added envs id name (added at name (value_of envs id name) v)
+
+-- the same by the names of the calls: `Append`, `Prepend` and `AppendUnique`
+abbrev pub appended : List Scope → ℕ → List ℕ → EnvValue → Option (List Scope)
+appended envs id name v = after_adding place.Behind envs id name v
+
+abbrev pub prepended : List Scope → ℕ → List ℕ → EnvValue → Option (List Scope)
+prepended envs id name v = after_adding place.InFront envs id name v
+
+abbrev pub appended_new : List Scope → ℕ → List ℕ → EnvValue → Option (List Scope)
+appended_new envs id name v = after_adding place.New envs id name v

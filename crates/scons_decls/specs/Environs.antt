@@ -10,7 +10,7 @@ use Rattle.env_vars.specs.Vars.{Var}
 use Rattle.env_vars.specs.Given as vars
 use Rattle.env_vars.specs.Initial.{initial_vars}
 use Rattle.env_vars.specs.Added.{as_set}
-use Rattle.env_vars.specs.Envs.{Scope, value_of, behind_of, copied, set_all, with_var, is_unset}
+use Rattle.env_vars.specs.Envs.{Scope, value_of, behind_of, copied, set_all, with_var, is_unset, appended, prepended, appended_new}
 use Rattle.env_pieces.specs.declared.form.Mode.{Mode}
 use Rattle.env_subst.specs.declared.locals.Locals.{Locals}
 use Rattle.env_subst.specs.declared.library.LibItem.{LibItem}
@@ -135,3 +135,18 @@ with_value e env name value = with_scopes e (with_var e.scopes (held e env) (nam
 
 abbrev pub with_default : Environs → ℕ → List ℕ → EnvValue → Environs
 with_default e env name value = if is_unset name (variable_of e env name) then with_value e env name value else e
+
+-- the environments after values were added to a variable, or none where the kinds don't fit
+abbrev pub or_none : Environs → Option (List Scope) → Option Environs
+or_none e None = None
+or_none e (Some scopes) = Some (with_scopes e scopes)
+
+-- a value behind the one that the variable has, in front of it, and those of its items behind that aren't there
+abbrev pub with_behind : Environs → ℕ → List ℕ → EnvValue → Option Environs
+with_behind e env name value = or_none e (appended e.scopes (held e env) name value)
+
+abbrev pub with_in_front : Environs → ℕ → List ℕ → EnvValue → Option Environs
+with_in_front e env name value = or_none e (prepended e.scopes (held e env) name value)
+
+abbrev pub with_missing : Environs → ℕ → List ℕ → EnvValue → Option Environs
+with_missing e env name value = or_none e (appended_new e.scopes (held e env) name value)

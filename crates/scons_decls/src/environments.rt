@@ -1,5 +1,5 @@
 //! The environments of a reading, each with its decider and the builders that scripts gave it.
-ghost use Rattle.std.specs.Prelude.{◌≡◌, ◌≢◌, ◌<◌, [], true, Ok, Err, codes, length, option_copied, IfOk, IfErr, OnOk, string_bytes};
+ghost use Rattle.std.specs.Prelude.{◌≡◌, ◌≢◌, ◌<◌, [], true, Some, None, Ok, Err, codes, length, option_copied, IfOk, IfErr, OnOk, string_bytes};
 ghost use Rattle.env_pieces.specs.declared.form.Mode.TheVariants as mode;
 ghost use Rattle.env_subst.specs.declared.locals.Locals.{Locals};
 ghost use Rattle.env_subst.specs.Contents.{said, held_or_nothing};
@@ -203,13 +203,21 @@ impl Environments {
     }
 
     /// `Append`: a value behind the one that the variable has.
-    pub fn append(&mut self, env: EnvId, name: &str, value: EnvValue) -> Result<(), EnvFault> {
+    pub fn append(&mut self, env: EnvId, name: &str, value: EnvValue) -> Result<(), EnvFault>
+        ensures ok { OnOk result (spec.with_behind self.old env.0 name.now value ≡ Some self.new) }
+        ensures fault { IfErr result (λ e. e ≢ EnvFault.Memory
+            → (e ≡ EnvFault.Kinds) × (spec.with_behind self.old env.0 name.now value ≡ None)) }
+    {
         let env = self.held(env);
         self.envs.append(env, name, value)
     }
 
     /// `Prepend`: a value in front of the one that the variable has.
-    pub fn prepend(&mut self, env: EnvId, name: &str, value: EnvValue) -> Result<(), EnvFault> {
+    pub fn prepend(&mut self, env: EnvId, name: &str, value: EnvValue) -> Result<(), EnvFault>
+        ensures ok { OnOk result (spec.with_in_front self.old env.0 name.now value ≡ Some self.new) }
+        ensures fault { IfErr result (λ e. e ≢ EnvFault.Memory
+            → (e ≡ EnvFault.Kinds) × (spec.with_in_front self.old env.0 name.now value ≡ None)) }
+    {
         let env = self.held(env);
         self.envs.prepend(env, name, value)
     }
@@ -220,7 +228,11 @@ impl Environments {
         env: EnvId,
         name: &str,
         value: EnvValue,
-    ) -> Result<(), EnvFault> {
+    ) -> Result<(), EnvFault>
+        ensures ok { OnOk result (spec.with_missing self.old env.0 name.now value ≡ Some self.new) }
+        ensures fault { IfErr result (λ e. e ≢ EnvFault.Memory
+            → (e ≡ EnvFault.Kinds) × (spec.with_missing self.old env.0 name.now value ≡ None)) }
+    {
         let env = self.held(env);
         self.envs.append_unique(env, name, value)
     }
