@@ -1,33 +1,48 @@
 -- A build, from what it began with: leftover copies went, and from there it took its steps.
-use Rattle.std.proofs.Common.{arith, ◌≡◌, ◌∙◌, ℕ, Bool, true, false, ◌||◌, List, [], length, refl, subst, sym, ap}
+use Rattle.std.proofs.Common.{arith, ◌≡◌, ◌∙◌, ℕ, Bool, true, false, ◌||◌, List, [], Contains, length, refl, subst, sym, ap}
 use Rattle.std.specs.Prelude.{Result, Ok, Err, IfOk, OnErr, max, min, nat_lt}
 use Rattle.build_model.proofs.Lists.{true_false}
 use Rattle.scons_base.specs.declared.ids.NodeId.{NodeId}
-use Rattle.world_api.specs.Meaning.{Meaning}
+use Rattle.world_api.specs.Around.{Around, IsRunningTarget}
+use Rattle.world_api.specs.Calls.{Asks, Grows}
+use Rattle.world_api.specs.Meaning.{Meaning, IsImage}
 use Rattle.world_api.specs.Printed.{SinkMeaning}
 use Rattle.world_api.specs.declared.hash.Hash.{Hash}
 use Rattle.rule_graph.specs.Graphs.{RuleGraph}
 use Rattle.rule_graph.specs.Rules.{are_below}
-use Rattle.sign_store.specs.Stores.{map_of}
+use Rattle.sign_store.specs.Ends.{image_in}
+use Rattle.sign_store.specs.Stores.{IsKept, map_of}
+use Rattle.sign_store.specs.Tables.{Map}
 use Rattle.sign_store.specs.declared.store.Store.{Store}
 use Rattle.build_files.specs.declared.end.ListEnd.{ListEnd}
-use Rattle.build_means.specs.Builds.{Wanted, KeepsRecords, jobs_at_once}
+use Rattle.build_means.specs.Builds.{Wanted, KeepsRecords, build_in, graph_in, jobs_at_once, setting_in}
+use Rattle.build_means.specs.Records.{records_in}
+use Rattle.build_means.specs.Graphs.{act_by}
+use Rattle.build_model.specs.Headline.{IsBuilt}
+use Rattle.build_model.specs.Records.{AreSound}
+use Rattle.build_model.specs.Rules.{Among, Bytes, Path, Setting}
 use Rattle.build_model.specs.Steps.{Step}
+use Rattle.build_model.proofs.Histories.{sound_too}
 use Rattle.scons_base.specs.Rising.{Rose}
 use Rattle.turn_means.proofs.Recording.{begins}
 use Rattle.build_means.specs.Rules.{IsReading}
-use Rattle.run_means.proofs.Keeping.{begin, did}
+use Rattle.run_means.proofs.Keeping.{begin, did, none_there}
+use Rattle.run_means.proofs.Lists.{among_contains, contains_among}
+use Rattle.turn_means.specs.Safety.{IsSafe}
 use Rattle.turn_means.specs.Standing.{Outset}
+use Rattle.turn_means.proofs.Safety.{stop}
 use Rattle.build_run.specs.Along.{is_faulted}
 use Rattle.build_run.specs.Ledgers.{Ledger, ledger_of, blank}
 use Rattle.build_run.specs.Output.{BuildPrints, MakesPrinted}
-use Rattle.build_run.specs.Outsets.{wanted_of, BuildRuns, BuildSucceeds, HasMade, HasRun, HasSetOut, IsBlank, IsReadyFor, Leaves, MakesAll, SetsOut, SetsOutBehind, StandFor, StaysKept}
-use Rattle.build_run.specs.Safe.{HasOutset}
+use Rattle.build_run.specs.Outsets.{wanted_of, GoesByContent, BuildRuns, BuildSucceeds, HasMade, HasRun, HasSetOut, IsBlank, IsReadyFor, Leaves, MakesAll, SetsOut, SetsOutBehind, StandFor, StaysKept}
+use Rattle.build_run.specs.Safe.{HasOutset, IsSafeNow, StaysSafe}
 use Rattle.build_run.specs.Takes.{IsLeftAt}
+use Rattle.build_run.specs.Truth.{TellsTruth}
 use Rattle.build_run.specs.declared.account.Account.{Account}
 use Rattle.build_run.proofs.BuildPrinting.{none_printed}
 use Rattle.build_run.proofs.StepTexts.{steps_printed}
 use Rattle.build_run.proofs.EndingOn.{not_before}
+use Rattle.build_run.proofs.Stopped.{safe_first}
 use Rattle.build_run.specs.declared.building.Options.{Options}
 use Rattle.build_run.specs.declared.end.BuildEnd.{BuildEnd}
 use Rattle.build_run.specs.declared.site.Run.{Run}
@@ -61,6 +76,18 @@ is_blank account is ended = record {
   faulted = ap (λ (l : Ledger). l.memory || nat_lt 0 (length l.faults)) is;
   unshut = ap (λ (l : Ledger). l.shut) is;
 }
+
+-- ---- the records that it went by tell the truth
+
+-- what was safe behind looks was so before them, for all that was met since
+sound_before : (s u : Setting) (left around after : Around) (records : Map) → u.act ≡ s.act → u.digest ≡ s.digest → left.running ≡ [] →
+    Asks left around → Grows left.met after.met → IsSafe s around records → AreSound u after.met left.tree (records_in records)
+sound_before s u left around after records acts digests idle asks grows safe =
+    sound_too s u acts digests more (stop s records around left.tree safe
+    (λ path free. sym (asks.files path (λ target. free (subst (λ runs. IsRunningTarget runs path) (sym asks.running) target)))))
+  where
+    more : (bytes : Bytes) → Among bytes around.met → Among bytes after.met
+    more bytes m = contains_among after.met (grows bytes (subst (λ (met : List Bytes). Contains met bytes) asks.met (among_contains m)))
 
 module _ {W : Type 0} (m : Meaning W) (g : RuleGraph) (requested : List NodeId) (options : Options) (read : IsReading g) (a b c : W)
     (store mid : Store) (rest : m.tells a → (m.around a).running ≡ []) where
@@ -127,20 +154,43 @@ module _ {W : Type 0} (m : Meaning W) (g : RuleGraph) (requested : List NodeId) 
         };
       }
 
-      pub build_succeeded : (answer : BuildEnd) → (answer.faults ≡ [] → answer.memory ≡ false → is_faulted after ≡ false) →
-          BuildSucceeds m w (map_of store) a c (map_of last) answer
-      build_succeeded answer faulted = λ none memory tells sure below.
-          let well = (made tells sure below).succeeds (faulted none memory) in
-          record {
-            left = (has (told tells) below).left;
-            kept = map_of mid;
-            rest = (has (told tells) below).rest;
-            succeeded = well.succeeded;
-            records = well.records;
-            stored =
-                let did = made tells sure below in
-                stands tells (did.unshut (not_before after.is_ended (is_faulted after) did.told (faulted none memory)));
-          }
+      module _ (reads : IsImage m b (m.seen b)) (kept : IsKept m b mid) (sure_back : m.sure c → m.sure b)
+          (safe : (s : Setting) → IsSafeNow m s a → StaysSafe m s a b) where
+        -- as it began what stood was safe
+        begun_safe : m.tells b → m.sure b → TellsTruth m (setting_in w (m.around a)) a → IsSafe (setting_in w (m.around a)) (m.around b) (map_of mid)
+        begun_safe tells sure truth =
+            let s = setting_in w (m.around a) in
+            let now = (safe s (safe_first m s a rest (λ t u. record { acts = refl; digests = refl }) truth)).now tells sure in
+            subst (λ (records : Map). IsSafe s (m.around b) records) (kept.each tells (m.seen b) reads).image (now.images (m.seen b) reads)
+
+        went_by : (tells : m.tells c) → m.sure c → (below : are_below (length g.nodes) requested ≡ true) → TellsTruth m (setting_in w (m.around a)) a →
+            AreSound (setting_in w (has (told tells) below).left) (m.around c).met (has (told tells) below).left.tree (records_in (map_of mid))
+        went_by tells sure below truth =
+            let here = told tells in
+            let behind = has here below in
+            let set = (ready here below).sets.set in
+            sound_before (setting_in w (m.around a)) (setting_in w behind.left) behind.left (m.around b) (m.around c) (map_of mid)
+            (ap act_by behind.rest.law) refl set.none_runs set.around (made tells sure below).met (begun_safe here (sure_back sure) truth)
+
+        pub build_succeeded : (answer : BuildEnd) → (answer.faults ≡ [] → answer.memory ≡ false → is_faulted after ≡ false) →
+            BuildSucceeds m w (map_of store) a c (map_of last) answer
+        build_succeeded answer faulted = λ none memory tells sure below.
+            let well = (made tells sure below).succeeds (faulted none memory) in
+            record {
+              left = (has (told tells) below).left;
+              kept = map_of mid;
+              rest = (has (told tells) below).rest;
+              succeeded = well.succeeded;
+              records = well.records;
+              stored =
+                  let did = made tells sure below in
+                  stands tells (did.unshut (not_before after.is_ended (is_faulted after) did.told (faulted none memory)));
+              clean = λ truth by. well.succeeded.built (record {
+                sound = went_by tells sure below truth;
+                distinct = by.distinct;
+                decider = by.decider;
+              });
+            }
 
   -- or nothing is made
   abbrev has_refused : (m.tells c → m.tells a) → Leaves m a store c mid (IsLeftAt g (m.around a) (map_of store)) → (answer : BuildEnd) →

@@ -155,6 +155,7 @@ module _ {W O E : Type 0} (m : Meaning W) (o : Outset) (outset : IsOutset o) (mi
             (comes_to_rest (not_before mid.account.now.is_ended after.is_ended ends.ended e));
         unshut = λ e. shut ∙ there.unshut (not_before mid.account.now.is_ended after.is_ended ends.ended e);
         told = ends.told on.at.told;
+        met = on.at.way.met;
         succeeds = ended_well;
       }
 

@@ -18,7 +18,8 @@ use Rattle.build_means.specs.Graphs.{act_by}
 use Rattle.turn_means.specs.Recording.{HaveNone}
 use Rattle.turn_means.specs.Safety.{IsSafe}
 use Rattle.turn_means.proofs.Safety.{calls, stop}
-use Rattle.build_run.specs.Safe.{GoesSafely, IsOfLaw, IsSafeMoment, IsSafeNow, StaysSafe}
+use Rattle.build_run.specs.Safe.{GoesSafely, IsOfLaw, IsSafeNow, StaysSafe}
+use Rattle.build_run.specs.Truth.{IsSafeMoment}
 
 -- what is safe is so wherever it is stopped
 pub moment : (s : Setting) (around : Around) (banks : Banks) → IsSafe s around (image_in banks) → IsSafeMoment s around banks

@@ -6,7 +6,8 @@ use Rattle.world_api.specs.Meaning.{Meaning}
 use Rattle.build_model.specs.Rules.{Setting}
 use Rattle.build_means.specs.Builds.{Wanted}
 use Rattle.run_means.proofs.Keeping.{none_there}
-use Rattle.build_run.specs.Safe.{BuildsSafely, HasOutset, IsAlongSome, IsOfLaw, IsSafeNow, StaysSafe, StaysTrue, TellsTruth}
+use Rattle.build_run.specs.Safe.{BuildsSafely, HasOutset, IsAlongSome, IsOfLawNow, IsSafeNow, StaysSafe, StaysTrue}
+use Rattle.build_run.specs.Truth.{TellsTruth}
 use Rattle.build_run.specs.declared.site.Site.{Site}
 use Rattle.build_run.proofs.Finishing.{first_along}
 use Rattle.build_run.proofs.Safely.{moment}
@@ -22,10 +23,10 @@ along_first m site held tickets has = record {
 
 module _ {W : Type 0} (m : Meaning W) (s : Setting) where
   -- where nothing runs what stands is all that a stop may leave
-  safe_first : (world : W) → (m.tells world → (m.around world).running ≡ []) → (m.tells world → IsOfLaw s (m.around world)) →
-      TellsTruth m s world → IsSafeNow m s world
+  safe_first : (world : W) → (m.tells world → (m.around world).running ≡ []) → IsOfLawNow m s world → TellsTruth m s world →
+      IsSafeNow m s world
   safe_first world idle law truth tells sure = record {
-    of = law tells;
+    of = law tells sure;
     images = λ banks image. record {
       none = λ path target. none_there (subst (λ (runs : List Running). IsRunningTarget runs path) (idle tells) target).1;
       sound = truth tells sure banks image (m.around world).tree (λ path free. refl);
@@ -36,6 +37,7 @@ module _ {W : Type 0} (m : Meaning W) (s : Setting) where
   true_last old new stays = record {
     moments = stays.moments;
     now = λ tells sure banks image. moment s (m.around new) banks ((stays.now tells sure).images banks image);
+    law = λ tells sure. (stays.now tells sure).of;
   }
 
 pub builds_safely : {W : Type 0} (m : Meaning W) (w : Wanted) (old new : W) → (m.tells old → (m.around old).running ≡ []) →

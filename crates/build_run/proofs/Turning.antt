@@ -8,7 +8,8 @@ use Rattle.sign_store.specs.declared.store.Store.{Store}
 use Rattle.build_model.specs.Rules.{Setting}
 use Rattle.build_run.specs.Along.{StaysAlong}
 use Rattle.build_run.specs.Holds.{Busy}
-use Rattle.build_run.specs.Safe.{AreSafeIn, HoldsSafely, IsAlongSome, IsSafeMoment, IsSafeNow, IsSafeSite, SiteGoesSafely, StaysSafe, TurnsSafely}
+use Rattle.build_run.specs.Safe.{AreSafeIn, HoldsSafely, IsAlongSome, IsSafeNow, IsSafeSite, SiteGoesSafely, StaysSafe, TurnsSafely}
+use Rattle.build_run.specs.Truth.{IsSafeMoment}
 use Rattle.build_run.specs.declared.account.Account.{Account}
 use Rattle.build_run.specs.declared.site.Site.{Site}
 use Rattle.build_run.proofs.Clearing.{clears_asked}

@@ -15,5 +15,6 @@ pub mod Safe
 pub mod Shown
 pub mod Sites
 pub mod Takes
+pub mod Truth
 pub mod Withdrawals
 pub mod Whys

@@ -4,6 +4,7 @@ use Rattle.scons_base.specs.Rising.{Rose}
 use Rattle.scons_base.specs.declared.ids.NodeId.{NodeId}
 use Rattle.world_api.specs.Around.{Around}
 use Rattle.world_api.specs.Banks.{Banks}
+use Rattle.world_api.specs.Calls.{Grows}
 use Rattle.world_api.specs.Meaning.{Meaning, IsImage}
 use Rattle.world_api.specs.declared.hash.Hash.{Hash}
 use Rattle.rule_graph.specs.Graphs.{RuleGraph}
@@ -16,12 +17,16 @@ use Rattle.task_plan.specs.Admits.{Fits}
 use Rattle.task_plan.specs.Met.{AllMet, AreFrom}
 use Rattle.task_plan.specs.Plans.{Planned}
 use Rattle.task_plan.specs.Watched.{IsStill, AreGoingOn, IsFinished}
-use Rattle.build_means.specs.Builds.{Wanted, KeepsRecords, Rests, Runs, Succeeded}
+use Rattle.build_model.specs.Headline.{IsBuilt, IsNeeded}
+use Rattle.build_model.specs.Records.{AreDistinct}
+use Rattle.build_model.specs.Rules.{Rule, content}
+use Rattle.build_means.specs.Builds.{Wanted, KeepsRecords, Rests, Runs, Succeeded, build_in, graph_in, setting_in}
 use Rattle.build_files.specs.Marked.{AreGoneOver}
 use Rattle.turn_means.specs.Standing.{Outset, IsOutset}
 use Rattle.turn_means.specs.Laws.{IsSetOut}
 use Rattle.build_run.specs.Along.{AreAsked, is_faulted}
 use Rattle.build_run.specs.Takes.{IsLeftAt, OnlyGo}
+use Rattle.build_run.specs.Truth.{TellsTruth}
 use Rattle.build_run.specs.declared.account.Account.{Account}
 use Rattle.build_run.specs.declared.building.Options.{Options}
 use Rattle.build_run.specs.declared.end.BuildEnd.{BuildEnd}
@@ -112,6 +117,7 @@ pub record HasMade (o : Outset) (around : Around) (account : Account) (behind : 
   pub rests : account.is_ended ≡ false → Rests o.wanted o.kept o.before around runs.steps
   pub unshut : account.is_ended ≡ false → account.is_store_shut ≡ false
   pub told : account.is_ended ≡ true → is_faulted account ≡ true
+  pub met : Grows o.before.met around.met
   pub succeeds : is_faulted account ≡ false → HasEndedWell o around behind
 
 -- a build has set out from there
@@ -160,6 +166,11 @@ pub record HasRun {W : Type 0} (m : Meaning W) (w : Wanted) (map : Map) (old new
   -- nor may a stop leave anything of the banks then that stands for other records
   pub stored : ended ≡ false → StandFor m new behind
 
+-- A build goes by content alone: no two contents that were met have one digest, and no needed rule has another decider.
+pub record GoesByContent (w : Wanted) (kept : Map) (before after : Around) : Type 0 where
+  pub distinct : AreDistinct (setting_in w before) after.met
+  pub decider : (r : Rule) → IsNeeded (graph_in w before) (build_in w kept before after) r → r.decider ≡ content
+
 -- What a build did that ended well, and that its steps left these records.
 pub record HasSucceeded {W : Type 0} (m : Meaning W) (w : Wanted) (map : Map) (old new : W) (behind : Map) : Type 0 where
   pub left : Around
@@ -168,6 +179,10 @@ pub record HasSucceeded {W : Type 0} (m : Meaning W) (w : Wanted) (map : Map) (o
   pub succeeded : Succeeded w kept (m.counts old) left (m.around new)
   pub records : KeepsRecords w kept left (m.around new) succeeded.runs.steps behind
   pub stored : StandFor m new behind
+  -- The incremental build is the clean one. Where what stood before told the truth, and by content, its targets have the bytes of a
+  -- build from sources alone, and just what is needed and stale was started, each once.
+  pub clean : TellsTruth m (setting_in w (m.around old)) old → GoesByContent w kept left (m.around new) →
+      IsBuilt (graph_in w left) (build_in w kept left (m.around new)) succeeded.runs.steps
 
 -- So builds do, in a world that tells and is sure, where the requested nodes are the graph's.
 abbrev pub BuildRuns : {W : Type 0} → Meaning W → Wanted → Map → W → W → Map → BuildEnd → Type 0

@@ -11,29 +11,26 @@ use Rattle.task_plan.specs.declared.want.Want.{Want}
 use Rattle.world_api.specs.Around.{Around, Running, IsRunningTarget, given_of}
 use Rattle.world_api.specs.Banks.{Banks}
 use Rattle.world_api.specs.Meaning.{Meaning, IsImage, Surely}
-use Rattle.build_model.specs.Rules.{Path, Tree, Setting}
-use Rattle.build_model.specs.Records.{AreSound, digested, named_digest}
+use Rattle.build_model.specs.Rules.{Path, Setting}
+use Rattle.build_model.specs.Records.{digested, named_digest}
 use Rattle.build_means.specs.Builds.{Wanted}
 use Rattle.build_means.specs.Graphs.{digest_by}
-use Rattle.build_means.specs.Records.{record_in, records_in}
+use Rattle.build_means.specs.Records.{record_in}
 use Rattle.turn_means.specs.Laws.{HasMet}
-use Rattle.turn_means.specs.Safety.{ActsAs, IsLeft, IsSafe, IsTicketOf, IsTrue}
+use Rattle.turn_means.specs.Safety.{ActsAs, IsSafe, IsTicketOf, IsTrue}
 use Rattle.turn_means.specs.Standing.{Outset, IsOutset}
 use Rattle.build_run.specs.Along.{IsAlong, IsReliable, IsWantedOf}
 use Rattle.build_run.specs.Holds.{Busy}
 use Rattle.build_run.specs.Outs.{ShareNone}
 use Rattle.build_run.specs.Outsets.{IsReadyFor}
 use Rattle.build_run.specs.Sites.{most_jobs}
+use Rattle.build_run.specs.Truth.{IsSafeMoment, TellsTruth}
 use Rattle.build_run.specs.declared.account.Account.{Account}
 use Rattle.build_run.specs.declared.building.Options.{Options}
 use Rattle.build_run.specs.declared.site.Run.{Run}
 use Rattle.build_run.specs.declared.site.Site.{Site}
 
--- ---- moments
-
--- whatever a stop leaves of the files, these banks tell the truth of it
-abbrev pub IsSafeMoment : Setting → Around → Banks → Type 0
-IsSafeMoment s around banks = (left : Tree) → IsLeft around left → AreSound s around.met left (records_in (image_in banks))
+-- ---- worlds
 
 -- actions make what the law says, and digests are made by the functions that there are
 pub record IsOfLaw (s : Setting) (around : Around) : Type 0 where
@@ -156,17 +153,18 @@ abbrev pub MakesSafely : {W : Type 0} → Meaning W → RuleGraph → Run → St
 MakesSafely m g run store world account options new = (s : Setting) →
     (m.tells world → m.sure world → HasOutset m g run store world account options) → IsSafeNow m s world → StaysSafe m s world new
 
--- whatever a stop leaves now tells the truth
-abbrev pub TellsTruth : {W : Type 0} → Meaning W → Setting → W → Type 0
-TellsTruth m s world = m.tells world → m.sure world → (banks : Banks) → IsImage m world banks → IsSafeMoment s (m.around world) banks
+-- actions make what the law says, where the world tells and is sure
+abbrev pub IsOfLawNow : {W : Type 0} → Meaning W → Setting → W → Type 0
+IsOfLawNow m s world = m.tells world → m.sure world → IsOfLaw s (m.around world)
 
--- a build told the truth at every moment of it, and does so behind it
+-- what stands told the truth at every moment between, and does so behind, where actions make what they made before
 pub record StaysTrue {W : Type 0} (m : Meaning W) (s : Setting) (old new : W) : Type 0 where
   pub moments : Surely m old new (IsSafeMoment s)
   pub now : TellsTruth m s new
+  pub law : IsOfLawNow m s new
 
 -- A build tells the truth wherever it is stopped, whatever it answers, where what stood before told the truth, nothing ran, and
 -- the requested nodes are the graph's. Of the world it is asked only that it tells and is sure.
 abbrev pub BuildsSafely : {W : Type 0} → Meaning W → Wanted → W → W → Type 0
-BuildsSafely m w old new = (s : Setting) → (m.tells old → IsOfLaw s (m.around old)) → TellsTruth m s old →
+BuildsSafely m w old new = (s : Setting) → IsOfLawNow m s old → TellsTruth m s old →
     are_below (length w.graph.nodes) w.requested ≡ true → StaysTrue m s old new

@@ -16,9 +16,10 @@ use Rattle.build_means.specs.Records.{records_in}
 use Rattle.build_files.proofs.Left.{none_runs}
 use Rattle.turn_means.specs.Safety.{IsLeft}
 use Rattle.turn_means.proofs.Safety.{calls, stop}
-use Rattle.build_run.specs.Safe.{IsOfLaw, IsSafeMoment, StaysTrue, TellsTruth}
+use Rattle.build_run.specs.Safe.{IsOfLaw, IsOfLawNow, StaysTrue}
+use Rattle.build_run.specs.Truth.{IsSafeMoment, TellsTruth}
 use Rattle.scons_top.specs.Builds.{BeginsStore}
-use Rattle.scons_top.specs.Stopping.{RunsSafely, StepsSafely}
+use Rattle.scons_top.specs.Stopping.{RunsSafely}
 
 module _ (s : Setting) where
   -- a look changes no file but those that running jobs write, of which a stop may leave anything
@@ -45,31 +46,20 @@ module _ (s : Setting) where
 
 module _ {W : Type 0} (m : Meaning W) where
   -- nothing was done
-  pub steps_here : HasOnlyNow m → (w : W) → StepsSafely m w w
+  pub steps_here : HasOnlyNow m → (w : W) → RunsSafely m w w
   steps_here only w s law truth = record { moments = sure_begins m w (IsSafeMoment s) (only w) truth; now = truth; law = law }
 
   -- one step after another
-  pub steps_on : (old mid new : W) → Told m mid new → StepsSafely m old mid → StepsSafely m mid new → StepsSafely m old new
+  pub steps_on : (old mid new : W) → Told m mid new → RunsSafely m old mid → RunsSafely m mid new → RunsSafely m old new
   steps_on old mid new told first then s law truth =
       let one = first s law truth in
       let two = then s one.law one.now in
       record { moments = sure_chains m old mid new (IsSafeMoment s) told one.moments two.moments; now = two.now; law = two.law }
 
-  -- a run after steps
-  pub runs_on : (old mid new : W) → Told m mid new → StepsSafely m old mid → RunsSafely m mid new → RunsSafely m old new
-  runs_on old mid new told first then s law truth =
-      let one = first s law truth in
-      let two = then s one.law one.now in
-      record { moments = sure_chains m old mid new (IsSafeMoment s) told one.moments two.moments; now = two.now }
-
-  -- steps are a run
-  pub runs_by : (old new : W) → StepsSafely m old new → RunsSafely m old new
-  runs_by old new steps s law truth = let all = steps s law truth in record { moments = all.moments; now = all.now }
-
   -- looks, many or none, keep what is true
-  true_looked : HasOnlyNow m → (old new : W) (s : Setting) → Looks m old new → TellsTruth m s old → StaysTrue m s old new
+  pub steps_looked : HasOnlyNow m → (old new : W) → Looks m old new → RunsSafely m old new
   unfolding IsSince
-  true_looked only old new s looks truth = record {
+  steps_looked only old new looks s law truth = record {
     moments = surely m old new (IsSafeMoment s) (record {
       told = looks.told.told;
       each = λ t a banks left sure. elim (looks.before t (m.clock old) a banks left) [
@@ -85,6 +75,7 @@ module _ {W : Type 0} (m : Meaning W) where
       now = λ t banks image sure. after t sure banks image;
     });
     now = after;
+    law = λ t sure. law_on s (m.around old) (m.around new) (looks.around t).law (law (looks.told.told t) (looks.told.sure t sure));
   }
     where
       at_look : m.tells new → m.sure new → (a : Around) (banks : Banks) → Asks (m.around old) a → IsImage m old banks
@@ -96,32 +87,20 @@ module _ {W : Type 0} (m : Meaning W) where
       after t sure banks image =
           at_look t sure (m.around new) banks (looks.around t) (λ bank. (looks.banks t bank).no_more (banks bank) (image bank))
 
-  pub steps_looked : HasOnlyNow m → (old new : W) → Looks m old new → StepsSafely m old new
-  steps_looked only old new looks s law truth =
-      let all = true_looked only old new s looks truth in
-      record {
-        moments = all.moments;
-        now = all.now;
-        law = λ t. law_on s (m.around old) (m.around new) (looks.around t).law (law (looks.told.told t));
-      }
-
   -- looks behind a run
   pub runs_looked : HasOnlyNow m → (old mid new : W) → RunsSafely m old mid → Looks m mid new → RunsSafely m old new
-  runs_looked only old mid new first looks s law truth =
-      let one = first s law truth in
-      let two = true_looked only mid new s looks one.now in
-      record { moments = sure_chains m old mid new (IsSafeMoment s) looks.told one.moments two.moments; now = two.now }
+  runs_looked only old mid new first looks = steps_on old mid new looks.told first (steps_looked only mid new looks)
 
   -- a removal while nothing runs
   pub steps_removed : (old new : W) (path : Path) → (m.tells old → (m.around old).running ≡ []) → Told m old new
       → (m.tells new → BanksKept m old new) → Throughout m old new (Meanwhile m old new)
-      → (m.tells new → Removes path (m.around old) (m.around new)) → StepsSafely m old new
+      → (m.tells new → Removes path (m.around old) (m.around new)) → RunsSafely m old new
   steps_removed old new path idle told kept time removes s law truth = record {
     moments = surely m old new (IsSafeMoment s) (world_call m old new (λ a banks. m.sure new → IsSafeMoment s a banks) time
         (λ t a banks asks image sure. asked s (m.around old) a banks asks (truth (told.told t) (told.sure t sure) banks image))
         (λ t banks image sure. after t sure banks image));
     now = after;
-    law = λ t. law_on s (m.around old) (m.around new) (removes t).law (law (told.told t));
+    law = λ t sure. law_on s (m.around old) (m.around new) (removes t).law (law (told.told t) (told.sure t sure));
   }
     where
       after : TellsTruth m s new
@@ -130,12 +109,13 @@ module _ {W : Type 0} (m : Meaning W) where
 
   -- The store is begun: the banks are as a stop could have left them before, or stand for what they were seen to stand for then.
   pub steps_begun : ((w : W) → m.tells w → IsImage m w (m.seen w)) → (old new : W) → Told m old new → BeginsStore m old new
-      → StepsSafely m old new
+      → RunsSafely m old new
   steps_begun reads old new told begins s law truth = record {
     moments = surely m old new (IsSafeMoment s) (weakens m old new (IsLeftOr m old (image_in (m.seen old)))
         (λ a banks. m.sure new → IsSafeMoment s a banks) begins.moments (λ t a banks at sure. as_left t sure a banks at));
     now = λ t sure banks image. as_left t sure (m.around new) banks (begins.moments.now t banks image);
-    law = λ t. law_on s (m.around old) (m.around new) (ap (λ (a : Around). a.law) (begins.around t)) (law (told.told t));
+    law = λ t sure.
+        law_on s (m.around old) (m.around new) (ap (λ (a : Around). a.law) (begins.around t)) (law (told.told t) (told.sure t sure));
   }
     where
       either : m.tells new → m.sure new → (banks : Banks) → IsImage m old banks ⊎ (image_in banks ≡ image_in (m.seen old))

@@ -9,7 +9,7 @@ ghost use Rattle.scons_top.specs.Requested.{AskForNodes, nodes_asked};
 ghost use Rattle.scons_top.specs.Steps.{IsTreeEnd, RunEndsAt, StopsAt};
 ghost use Rattle.scons_top.specs.Stops.{OutSteps, OutReports};
 ghost use Rattle.scons_top.specs.Faults.{IsLateStop};
-ghost use Rattle.scons_top.specs.Stopping.{StepsSafely};
+ghost use Rattle.scons_top.specs.Stopping.{RunsSafely};
 ghost use Rattle.world_api.specs.Statuses.{HasStatus};
 ghost use Rattle.scons_top.specs.Watching.{Watches};
 
@@ -42,7 +42,7 @@ pub(crate) fn clean_requests<W: World, O: Sink>(
     ensures ends { RunEndsAt Step.Cleaning result }
     ensures cleans { AskForNodes graph.now requests.now → CleansAsked W.meaning words.now graph.now (nodes_asked requests.now) world.old world.new result }
     ensures stays { Stays W.meaning world.old world.new }
-    ensures safe { StepsSafely W.meaning world.old world.new }
+    ensures safe { RunsSafely W.meaning world.old world.new }
     ensures reports { OutReports W.meaning O.meaning world.old out.old world.new out.new result }
     ensures dry { IsTrue words.now.dry → Watches W.meaning world.old world.new }
     ensures late { IfErr result IsLateStop }
@@ -71,7 +71,7 @@ fn clean_rules<W: World, O: Sink>(
     ensures gone { OnOk result (AreRemoved W.meaning words.now (targets_of (rules_numbered graph.now rules.now)) world.new) }
     ensures stops { IfErr result (StopsAt Step.Cleaning) }
     ensures stays { Stays W.meaning world.old world.new }
-    ensures safe { StepsSafely W.meaning world.old world.new }
+    ensures safe { RunsSafely W.meaning world.old world.new }
     ensures steps { OutSteps W.meaning O.meaning world.old out.old world.new out.new result }
     ensures dry { IsTrue words.now.dry → Watches W.meaning world.old world.new }
     ensures late { IfErr result IsLateStop }
@@ -97,7 +97,7 @@ fn clean_all<W: World, O: Sink>(
     ensures gone { OnOk result (AreRemoved W.meaning words.now (paths_of graph.now targets.now) world.new) }
     ensures stops { IfErr result (StopsAt Step.Cleaning) }
     ensures stays { Stays W.meaning world.old world.new }
-    ensures safe { StepsSafely W.meaning world.old world.new }
+    ensures safe { RunsSafely W.meaning world.old world.new }
     ensures steps { OutSteps W.meaning O.meaning world.old out.old world.new out.new result }
     ensures dry { IsTrue words.now.dry → Watches W.meaning world.old world.new }
     ensures late { IfErr result IsLateStop }
@@ -121,7 +121,7 @@ fn clean<W: World, O: Sink>(
     ensures gone { OnOk result (AreRemoved W.meaning words.now (path.now ∷ []) world.new) }
     ensures stops { IfErr result (StopsAt Step.Cleaning) }
     ensures stays { Stays W.meaning world.old world.new }
-    ensures safe { StepsSafely W.meaning world.old world.new }
+    ensures safe { RunsSafely W.meaning world.old world.new }
     ensures steps { OutSteps W.meaning O.meaning world.old out.old world.new out.new result }
     ensures dry { IsTrue words.now.dry → Watches W.meaning world.old world.new }
     ensures late { IfErr result IsLateStop }
@@ -139,7 +139,7 @@ fn is_removed<W: World>(words: &Words, world: &mut W, path: &PathText) -> Result
     ensures gone { OnOk result (AreRemoved W.meaning words.now (path.now ∷ []) world.new) }
     ensures tree { IfErr result IsTreeEnd }
     ensures stays { Stays W.meaning world.old world.new }
-    ensures safe { StepsSafely W.meaning world.old world.new }
+    ensures safe { RunsSafely W.meaning world.old world.new }
     ensures cause { HasLookCause (W.meaning.counts world.old) (W.meaning.counts world.new) result }
     ensures dry { IsTrue words.now.dry → Watches W.meaning world.old world.new }
 {
@@ -157,7 +157,7 @@ fn take<W: World>(words: &Words, world: &mut W, path: &PathText) -> Result<bool,
     ensures gone { OnOk result (AreRemoved W.meaning words.now (path.now ∷ []) world.new) }
     ensures tree { IfErr result IsTreeEnd }
     ensures stays { Stays W.meaning world.old world.new }
-    ensures safe { StepsSafely W.meaning world.old world.new }
+    ensures safe { RunsSafely W.meaning world.old world.new }
     ensures cause { HasLookCause (W.meaning.counts world.old) (W.meaning.counts world.new) result }
     ensures dry { IsTrue words.now.dry → Watches W.meaning world.old world.new }
 {
@@ -198,7 +198,7 @@ fn remove<W: World>(world: &mut W, path: &PathText) -> Result<(), ListEnd>
     ensures gone { W.meaning.tells world.new → OnOk result ((W.meaning.around world.new).tree path.now ≡ None) }
     ensures tree { IfErr result IsTreeEnd }
     ensures stays { Stays W.meaning world.old world.new }
-    ensures safe { StepsSafely W.meaning world.old world.new }
+    ensures safe { RunsSafely W.meaning world.old world.new }
     ensures cause { HasLookCause (W.meaning.counts world.old) (W.meaning.counts world.new) result }
 {
     match world.remove(path) {

@@ -74,7 +74,9 @@ returns-in-Ok-clause-succeeds g c =
     c.set_out.ensures.goes.passes.told.told c.in-Ok.ensures.cause
     c.in-Ok.ensures.sets (is_blank c.new-account.result c.new-account.ensures.ledger c.new-account.ensures.ended)
     c.make_all-skipped.new.account c.make_all-skipped.ensures.passes.told.told
-    c.make_all-skipped.new.store c.make_all-skipped.ensures.makes made.shut c.make_all-skipped.ensures.stored c.answer.result c.answer.ensures.faulted
+    c.make_all-skipped.new.store c.make_all-skipped.ensures.makes made.shut c.make_all-skipped.ensures.stored
+    (λ tells. g.met.W.Disk.reads_as c.set_out.new.world tells) c.in-Ok.ensures.kept c.make_all-skipped.ensures.passes.told.sure
+    c.set_out.ensures.safe c.answer.result c.answer.ensures.faulted
 
 pub returns-in-Err-clause-runs : goal.returns-in-Err-clause-runs
 returns-in-Err-clause-runs g c =

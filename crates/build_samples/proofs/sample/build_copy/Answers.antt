@@ -46,7 +46,7 @@ returns c =
           subst (λ (w : Wanted). BuildSucceeds world_meaning w map old new behind c.build-end.result) asks c.build-end.ensures.succeeds none enough
           tt tt refl;
       safe = subst (λ (w : Wanted). BuildsSafely world_meaning w old new) asks c.build-end.ensures.safe (setting_in wanted (around_of old.state))
-          (λ told. record { acts = refl; digests = refl })
+          (λ told sure. record { acts = refl; digests = refl })
           (λ told sure banks image left is_left.
           let empty = (c.in_ok-world.ensures.kept.each told banks image).image ∙ c.in_ok-world.ensures.empty in
           record {

@@ -2,7 +2,7 @@ use Rattle.std.specs.Prelude.{Ok}
 use Rattle.scons_top.proofs.Opening.{stops_unopened, building_ends}
 use Rattle.scons_top.specs.declared.step.Step.TheVariants as step
 use Rattle.scons_top.proofs.Stepping.{ends_memory, ends_exit, reports_at, sink_at, building_at}
-use Rattle.scons_top.proofs.Stopping.{runs_by, runs_looked, runs_on, steps_begun, steps_here}
+use Rattle.scons_top.proofs.Stopping.{runs_looked, steps_begun, steps_here, steps_on}
 use Rattle.std.proofs.Common.{◌∙◌, inl, refl, subst, sym, inr}
 use Rattle.scons_top.proofs.Causing.{same_world, same_out, exit_report, report_memory, world_stop, sink_stop, stop_back, caused_back, build_found}
 use Rattle.world_api.proofs.Looking.{looks_same}
@@ -66,17 +66,17 @@ returns-clause-builds g c = λ asks ask tells sure.
     (are_below_all graph requested nodes) c.closed.ensures.well tells sure end.ensures.runs end.ensures.succeeds
 
 pub returns-in_err-nodes-clause-safe : goal.returns-in_err-nodes-clause-safe
-returns-in_err-nodes-clause-safe g c = λ asks. runs_by _ _ _ (steps_here g.W.Disk.meaning g.met.W.Disk.only_now c.args.world.now)
+returns-in_err-nodes-clause-safe g c = λ asks. steps_here g.W.Disk.meaning g.met.W.Disk.only_now c.args.world.now
 
 pub returns-in_err-store-clause-safe : goal.returns-in_err-store-clause-safe
 returns-in_err-store-clause-safe g c = λ asks.
     let begun = c.begin_store.ensures in
-    runs_by _ _ _ (steps_begun g.W.Disk.meaning g.met.W.Disk.reads_as c.args.world.now c.begin_store.new.world begun.goes.passes.told begun.begins)
+    steps_begun g.W.Disk.meaning g.met.W.Disk.reads_as c.args.world.now c.begin_store.new.world begun.goes.passes.told begun.begins
 
 pub returns-in_err-say-clause-safe : goal.returns-in_err-say-clause-safe
 returns-in_err-say-clause-safe g c = λ asks.
     let begun = c.begin_store.ensures in
-    runs_by _ _ _ (steps_begun g.W.Disk.meaning g.met.W.Disk.reads_as c.args.world.now c.begin_store.new.world begun.goes.passes.told begun.begins)
+    steps_begun g.W.Disk.meaning g.met.W.Disk.reads_as c.args.world.now c.begin_store.new.world begun.goes.passes.told begun.begins
 
 pub returns-clause-safe : goal.returns-clause-safe
 returns-clause-safe g c = λ asks.
@@ -87,7 +87,7 @@ returns-clause-safe g c = λ asks.
     let old = c.args.world.now in
     let begun = c.begin_store in
     let end = c.build-end in
-    runs_on m old begun.new.world end.new.world end.ensures.told
+    steps_on m old begun.new.world end.new.world end.ensures.told
     (steps_begun m g.met.W.Disk.reads_as old begun.new.world begun.ensures.goes.passes.told begun.ensures.begins)
     (λ s law truth. end.ensures.safe s law truth (are_below_all graph requested nodes))
 
@@ -142,7 +142,7 @@ returns-then-has_trees-clause-safe g c = λ asks.
     let begun = c.begin_store in
     let end = c.build-end in
     runs_looked m g.met.W.Disk.only_now old end.new.world c.tell_trees.new.world
-    (runs_on m old begun.new.world end.new.world end.ensures.told
+    (steps_on m old begun.new.world end.new.world end.ensures.told
     (steps_begun m g.met.W.Disk.reads_as old begun.new.world begun.ensures.goes.passes.told begun.ensures.begins)
     (λ s law truth. end.ensures.safe s law truth (are_below_all graph requested nodes)))
     c.tell_trees.ensures.watches.looks

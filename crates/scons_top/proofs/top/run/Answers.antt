@@ -3,7 +3,7 @@ use Rattle.scons_top.proofs.Clearing.{not_reading, cleans_after}
 use Rattle.scons_top.specs.declared.step.Step.TheVariants as step
 use Rattle.scons_top.proofs.Watching.{watches_on}
 use Rattle.scons_top.proofs.Stepping.{reading_runs, serves_runs, leaves_reading, leaves_after, ends_exit}
-use Rattle.scons_top.proofs.Stopping.{runs_by, runs_on, steps_looked}
+use Rattle.scons_top.proofs.Stopping.{steps_looked, steps_on}
 use Rattle.world_api.proofs.Looking.{looks_joined}
 use Rattle.scons_top.proofs.Early.{any_stop, stop_after}
 use Rattle.std.proofs.Common.{◌∙◌, ap, inl, subst, sym}
@@ -64,20 +64,20 @@ returns-clause-builds g c =
 
 pub returns-in_err-graph-clause-safe : goal.returns-in_err-graph-clause-safe
 returns-in_err-graph-clause-safe g c =
-    runs_by _ _ _ (steps_looked g.W.Disk.meaning g.met.W.Disk.only_now _ _ c.read.ensures.watches.looks)
+    steps_looked g.W.Disk.meaning g.met.W.Disk.only_now _ _ c.read.ensures.watches.looks
 
 pub returns-then-words-clause-safe : goal.returns-then-words-clause-safe
 returns-then-words-clause-safe g c =
-    runs_by _ _ _ (steps_looked g.W.Disk.meaning g.met.W.Disk.only_now _ _ c.read.ensures.watches.looks)
+    steps_looked g.W.Disk.meaning g.met.W.Disk.only_now _ _ c.read.ensures.watches.looks
 
 pub returns-in_err-requests-clause-safe : goal.returns-in_err-requests-clause-safe
 returns-in_err-requests-clause-safe g c =
-    runs_by _ _ _ (steps_looked g.W.Disk.meaning g.met.W.Disk.only_now _ _
-    (looks_joined _ _ _ _ c.read.ensures.watches.looks c.requests_of.ensures.watches.looks))
+    steps_looked g.W.Disk.meaning g.met.W.Disk.only_now _ _
+    (looks_joined _ _ _ _ c.read.ensures.watches.looks c.requests_of.ensures.watches.looks)
 
 pub returns-clause-safe : goal.returns-clause-safe
 returns-clause-safe g c =
-    runs_on g.W.Disk.meaning c.args.world.now c.requests_of.new.world c.serve.new.world c.serve.ensures.passes.told
+    steps_on g.W.Disk.meaning c.args.world.now c.requests_of.new.world c.serve.new.world c.serve.ensures.passes.told
     (steps_looked g.W.Disk.meaning g.met.W.Disk.only_now c.args.world.now c.requests_of.new.world
     (looks_joined _ _ _ _ c.read.ensures.watches.looks c.requests_of.ensures.watches.looks))
     (c.serve.ensures.safe (subst (AskForNodes c.requests_of.new.graph) (sym c.as_slice.ensures.value) c.in_ok-requests.ensures.nodes))

@@ -2,7 +2,7 @@ use Rattle.scons_top.specs.Requested.{nodes_asked}
 use Rattle.scons_top.proofs.Opening.{cleaning_ends}
 use Rattle.scons_top.proofs.Clearing.{asked_or_stops, not_listing, not_building}
 use Rattle.scons_top.proofs.Stepping.{listing_serves, building_serves, leaves_listing}
-use Rattle.scons_top.proofs.Stopping.{runs_by, steps_looked}
+use Rattle.scons_top.proofs.Stopping.{steps_looked}
 use Rattle.scons_top.proofs.Building.{no_clean, no_dry}
 use Rattle.scons_top.proofs.top.serve.Goals as goal
 
@@ -17,14 +17,14 @@ returns-then-words-2-clause-builds g c = λ asks. no_dry c.args.words.now c.if-w
 
 pub returns-then-words-clause-safe : goal.returns-then-words-clause-safe
 returns-then-words-clause-safe g c = λ asks.
-    runs_by g.W.Disk.meaning c.args.world.now c.clean_requests.new.world c.clean_requests.ensures.safe
+    c.clean_requests.ensures.safe
 
 pub returns-then-words-2-clause-safe : goal.returns-then-words-2-clause-safe
 returns-then-words-2-clause-safe g c = λ asks.
     let m = g.W.Disk.meaning in
     let old = c.args.world.now in
     let new = c.list_requests.new.world in
-    runs_by m old new (steps_looked m g.met.W.Disk.only_now old new c.list_requests.ensures.watches.looks)
+    steps_looked m g.met.W.Disk.only_now old new c.list_requests.ensures.watches.looks
 
 pub returns-then-words-2-clause-serves : goal.returns-then-words-2-clause-serves
 returns-then-words-2-clause-serves g c = listing_serves c.args.words.now c.list_requests.new.at c.if-words.false c.if-words-2.true c.list_requests.ensures.listing

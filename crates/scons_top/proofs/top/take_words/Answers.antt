@@ -2,7 +2,7 @@ use Rattle.scons_top.proofs.Opening.{words_end, load_ends}
 use Rattle.scons_top.specs.Cleaned.{RunCleans}
 use Rattle.scons_top.specs.declared.step.Step.TheVariants as step
 use Rattle.scons_top.proofs.Stepping.{words_at, ends_exit, refused_words, not_refused, usage_words, usage_load, usage_run, load_comes, run_comes, none_loads, not_words, past_load, past_run}
-use Rattle.scons_top.proofs.Stopping.{runs_by, steps_here}
+use Rattle.scons_top.proofs.Stopping.{steps_here}
 use Rattle.std.proofs.Common.{inl, subst}
 use Rattle.world_api.proofs.Looking.{looks_same}
 use Rattle.scons_words.specs.Readings.{read}
@@ -36,10 +36,10 @@ returns-clause-builds g c = λ said is.
     (words_said (read c.args.words.now) c.in_ok-words.words said c.in_ok-words.ensures.ok is) c.run.ensures.builds
 
 pub returns-in_err-words-clause-safe : goal.returns-in_err-words-clause-safe
-returns-in_err-words-clause-safe g c = runs_by _ _ _ (steps_here g.W.Disk.meaning g.met.W.Disk.only_now c.args.world.now)
+returns-in_err-words-clause-safe g c = steps_here g.W.Disk.meaning g.met.W.Disk.only_now c.args.world.now
 
 pub returns-in-Some-clause-safe : goal.returns-in-Some-clause-safe
-returns-in-Some-clause-safe g c = runs_by _ _ _ (steps_here g.W.Disk.meaning g.met.W.Disk.only_now c.args.world.now)
+returns-in-Some-clause-safe g c = steps_here g.W.Disk.meaning g.met.W.Disk.only_now c.args.world.now
 
 pub returns-in_err-words-clause-leaves : goal.returns-in_err-words-clause-leaves
 returns-in_err-words-clause-leaves g c = looks_same g.W.Disk.meaning c.args.world.now
