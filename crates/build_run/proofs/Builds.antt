@@ -80,9 +80,9 @@ is_blank account is ended = record {
 -- ---- the records that it went by tell the truth
 
 -- what was safe behind looks was so before them, for all that was met since
-sound_before : (s u : Setting) (left around after : Around) (records : Map) → u.act ≡ s.act → u.digest ≡ s.digest → left.running ≡ [] →
+sound_before : (s u : Setting) (left around after : Around) (records : Map) → u.act ≡ s.act → u.digest ≡ s.digest →
     Asks left around → Grows left.met after.met → IsSafe s around records → AreSound u after.met left.tree (records_in records)
-sound_before s u left around after records acts digests idle asks grows safe =
+sound_before s u left around after records acts digests asks grows safe =
     sound_too s u acts digests more (stop s records around left.tree safe
     (λ path free. sym (asks.files path (λ target. free (subst (λ runs. IsRunningTarget runs path) (sym asks.running) target)))))
   where
@@ -170,7 +170,7 @@ module _ {W : Type 0} (m : Meaning W) (g : RuleGraph) (requested : List NodeId) 
             let behind = has here below in
             let set = (ready here below).sets.set in
             sound_before (setting_in w (m.around a)) (setting_in w behind.left) behind.left (m.around b) (m.around c) (map_of mid)
-            (ap act_by behind.rest.law) refl set.none_runs set.around (made tells sure below).met (begun_safe here (sure_back sure) truth)
+            (ap act_by behind.rest.law) refl set.around (made tells sure below).met (begun_safe here (sure_back sure) truth)
 
         pub build_succeeded : (answer : BuildEnd) → (answer.faults ≡ [] → answer.memory ≡ false → is_faulted after ≡ false) →
             BuildSucceeds m w (map_of store) a c (map_of last) answer

@@ -23,7 +23,7 @@ along_first m site held tickets has = record {
 
 module _ {W : Type 0} (m : Meaning W) (s : Setting) where
   -- where nothing runs what stands is all that a stop may leave
-  safe_first : (world : W) → (m.tells world → (m.around world).running ≡ []) → IsOfLawNow m s world → TellsTruth m s world →
+  pub safe_first : (world : W) → (m.tells world → (m.around world).running ≡ []) → IsOfLawNow m s world → TellsTruth m s world →
       IsSafeNow m s world
   safe_first world idle law truth tells sure = record {
     of = law tells sure;

@@ -1,5 +1,5 @@
 -- What a run built, told of the world as the run found it.
-use Rattle.std.proofs.Common.{◌≡◌, ◌∙◌, inl, inr, sym, subst, ap, ℕ, Bool, List, [], length, true, false, Some}
+use Rattle.std.proofs.Common.{◌≡◌, ◌∙◌, inl, inr, refl, sym, subst, ap, ℕ, Bool, List, [], length, true, false, Some}
 use Rattle.std.specs.Prelude.{Result, Ok, Err, IsErrAnd}
 use Rattle.std.proofs.lemmas.Bool.{false≢true}
 use Rattle.scons_base.specs.Rising.{Rose}
@@ -17,14 +17,18 @@ use Rattle.rule_graph.specs.Rules.{are_below}
 use Rattle.sign_store.specs.Ends.{image_in}
 use Rattle.sign_store.specs.Images.{image_of}
 use Rattle.sign_store.specs.Tables.{Map}
-use Rattle.build_means.specs.Builds.{Wanted, KeepsRecords, Rests, Runs, Succeeded}
+use Rattle.build_model.specs.Headline.{IsBuilt}
+use Rattle.build_model.specs.Steps.{Step}
+use Rattle.build_means.specs.Builds.{Wanted, KeepsRecords, Rests, Runs, Succeeded, build_in, graph_in, setting_in}
 use Rattle.build_files.proofs.Left.{none_runs}
-use Rattle.build_run.specs.Outsets.{HasRun, HasSucceeded, LeavesRest, StandFor, BuildRuns, BuildSucceeds}
+use Rattle.build_run.specs.Outsets.{GoesByContent, HasRun, HasSucceeded, LeavesRest, StandFor, BuildRuns, BuildSucceeds}
 use Rattle.build_run.specs.Takes.{IsLeftAt}
+use Rattle.build_run.specs.Truth.{TellsTruth}
 use Rattle.build_run.specs.declared.end.BuildEnd.{BuildEnd}
 use Rattle.world_mem.proofs.Backs.{same_around}
 use Rattle.scons_words.specs.declared.words.Words.{Words}
 use Rattle.scons_top.specs.Builds.{AskForBuild, BeginsStore, EndsBefore, wanted_by, HasBuilt, BuildsOrStops, RunBuilds}
+use Rattle.scons_top.specs.Stopping.{RunsSafely}
 use Rattle.scons_top.specs.Watching.{Watches}
 use Rattle.scons_top.specs.declared.report.Report.{Report}
 use Rattle.scons_top.specs.declared.stop.Stop.{Stop}
@@ -56,14 +60,19 @@ record RanFrom {W : Type 0} (m : Meaning W) (w : Wanted) (map : Map) (start : Ar
   rests : ended ≡ false → Rests w kept left (m.around new) runs.steps
   stored : ended ≡ false → StandFor m new behind
 
+-- what a build left and did is what a build from sources alone does
+abbrev IsCleanly : (w : Wanted) → Map → Around → Around → List Step → Type 0
+IsCleanly w kept left after steps = IsBuilt (graph_in w left) (build_in w kept left after) steps
+
 record SucceededFrom {W : Type 0} (m : Meaning W) (w : Wanted) (map : Map) (start : Around) (counts : Counts) (new : W)
-    (behind : Map) : Type 0 where
+    (behind : Map) (truth : Type 0) : Type 0 where
   left : Around
   kept : Map
   rest : LeavesRest (IsLeftAt w.graph start map) start map left kept
   succeeded : Succeeded w kept counts left (m.around new)
   records : KeepsRecords w kept left (m.around new) succeeded.runs.steps behind
   stored : StandFor m new behind
+  clean : truth → GoesByContent w kept left (m.around new) → IsCleanly w kept left (m.around new) succeeded.runs.steps
 
 module _ {W : Type 0} (m : Meaning W) (w : Wanted) (before after : Map) (a b new : W) (behind : Map)
     (around : m.around b ≡ m.around a) (counts : m.counts b ≡ m.counts a) (records : after ≡ before) where
@@ -84,14 +93,36 @@ module _ {W : Type 0} (m : Meaning W) (w : Wanted) (before after : Map) (a b new
         stored = back.stored;
       }
 
-  pub success_back : HasSucceeded m w after b new behind → HasSucceeded m w before a new behind
-  success_back h =
-      let r : SucceededFrom m w after (m.around b) (m.counts b) new behind =
-      record { left = h.left; kept = h.kept; rest = h.rest; succeeded = h.succeeded; records = h.records; stored = h.stored } in
-      let one = subst (λ x. SucceededFrom m w after x (m.counts b) new behind) around r in
-      let two = subst (λ c. SucceededFrom m w after (m.around a) c new behind) counts one in
-      let back = subst (λ (map : Map). SucceededFrom m w map (m.around a) (m.counts a) new behind) records two in
-      record { left = back.left; kept = back.kept; rest = back.rest; succeeded = back.succeeded; records = back.records; stored = back.stored }
+  pub success_back : RunsSafely m a b → HasSucceeded m w after b new behind → HasSucceeded m w before a new behind
+  success_back safe h =
+      let truth = TellsTruth m (setting_in w (m.around b)) b in
+      let r : SucceededFrom m w after (m.around b) (m.counts b) new behind truth =
+      record {
+        left = h.left;
+        kept = h.kept;
+        rest = h.rest;
+        succeeded = h.succeeded;
+        records = h.records;
+        stored = h.stored;
+        clean = h.clean;
+      } in
+      let one = subst (λ x. SucceededFrom m w after x (m.counts b) new behind truth) around r in
+      let two = subst (λ c. SucceededFrom m w after (m.around a) c new behind truth) counts one in
+      let back = subst (λ (map : Map). SucceededFrom m w map (m.around a) (m.counts a) new behind truth) records two in
+      record {
+        left = back.left;
+        kept = back.kept;
+        rest = back.rest;
+        succeeded = back.succeeded;
+        records = back.records;
+        stored = back.stored;
+        clean = λ told. back.clean (truth_on safe told);
+      }
+    where
+      truth_on : RunsSafely m a b → TellsTruth m (setting_in w (m.around a)) a → TellsTruth m (setting_in w (m.around b)) b
+      truth_on safe told =
+          subst (λ x. TellsTruth m (setting_in w x) b) (sym around)
+          (safe (setting_in w (m.around a)) (λ tells sure. record { acts = refl; digests = refl }) told).now
 
 -- looks behind a build that rests
 
@@ -115,6 +146,7 @@ record SucceededTo {W : Type 0} (m : Meaning W) (w : Wanted) (map : Map) (old : 
   rest : LeavesRest (IsLeftAt w.graph (m.around old) map) (m.around old) map left kept
   succeeded : Succeeded w kept (m.counts old) left end
   records : KeepsRecords w kept left end succeeded.runs.steps behind
+  clean : TellsTruth m (setting_in w (m.around old)) old → GoesByContent w kept left end → IsCleanly w kept left end succeeded.runs.steps
 
 module _ {W : Type 0} (m : Meaning W) (w : Wanted) (map : Map) (old a b : W) (behind : Map)
     (around : m.around b ≡ m.around a) (same : BanksKept m a b) where
@@ -138,7 +170,7 @@ module _ {W : Type 0} (m : Meaning W) (w : Wanted) (map : Map) (old a b : W) (be
   pub success_on : HasSucceeded m w map old a behind → HasSucceeded m w map old b behind
   success_on h =
       let r : SucceededTo m w map old (m.around a) behind =
-      record { left = h.left; kept = h.kept; rest = h.rest; succeeded = h.succeeded; records = h.records } in
+      record { left = h.left; kept = h.kept; rest = h.rest; succeeded = h.succeeded; records = h.records; clean = h.clean } in
       let on = subst (λ x. SucceededTo m w map old x behind) (sym around) r in
       record {
         left = on.left;
@@ -147,6 +179,7 @@ module _ {W : Type 0} (m : Meaning W) (w : Wanted) (map : Map) (old a b : W) (be
         succeeded = on.succeeded;
         records = on.records;
         stored = stand_looked m a b behind same h.stored;
+        clean = on.clean;
       }
 
 pub built_looked : {W : Type 0} (m : Meaning W) (said : Words) (old a b : W) (status : ℕ) → Watches m a b → m.tells b
@@ -167,8 +200,8 @@ built_looked m said old a b status watches told idle h =
     }
 
 pub built_back : {W : Type 0} (m : Meaning W) (said : Words) (a b new : W) (status : ℕ) → m.around b ≡ m.around a → m.counts b ≡ m.counts a
-    → image_in (m.seen b) ≡ image_in (m.seen a) → HasBuilt m said b new status → HasBuilt m said a new status
-built_back m said a b new status around counts records h =
+    → image_in (m.seen b) ≡ image_in (m.seen a) → RunsSafely m a b → HasBuilt m said b new status → HasBuilt m said a new status
+built_back m said a b new status around counts records safe h =
     let w = wanted_by said h.graph h.requested in
     let before = image_in (m.seen a) in
     let after = image_in (m.seen b) in
@@ -179,17 +212,17 @@ built_back m said a b new status around counts records h =
       kept = h.kept;
       is_ended = h.is_ended;
       runs = run_back m w before after a b new h.kept around counts records h.is_ended h.runs;
-      succeeds = λ well. success_back m w before after a b new h.kept around counts records (h.succeeds well);
+      succeeds = λ well. success_back m w before after a b new h.kept around counts records safe (h.succeeds well);
     }
 
 -- a build behind the beginning of its store
 pub build_done : {W : Type 0} (m : Meaning W) (said : Words) (g : RuleGraph) (requested : List NodeId) (store : Map)
     (old begun new : W) (behind : Map) (answer : BuildEnd) (status : ℕ)
-    → BeginsStore m old begun → m.tells begun → m.counts begun ≡ m.counts old → store ≡ image_in (m.seen old)
+    → BeginsStore m old begun → RunsSafely m old begun → m.tells begun → m.counts begun ≡ m.counts old → store ≡ image_in (m.seen old)
     → are_below (length g.nodes) requested ≡ true → (status ≡ 0 → (answer.faults ≡ []) × (answer.memory ≡ false))
     → m.tells new → m.sure new → BuildRuns m (wanted_by said g requested) store begun new behind answer
     → BuildSucceeds m (wanted_by said g requested) store begun new behind answer → HasBuilt m said old new status
-build_done m said g requested store old begun new behind answer status begins told counts records nodes well tells sure runs
+build_done m said g requested store old begun new behind answer status begins safe told counts records nodes well tells sure runs
     succeeds =
     let w = wanted_by said g requested in
     let before = image_in (m.seen old) in
@@ -201,7 +234,7 @@ build_done m said g requested store old begun new behind answer status begins to
       kept = behind;
       is_ended = answer.is_ended;
       runs = run_back m w before store old begun new behind around counts records answer.is_ended (runs tells sure nodes);
-      succeeds = λ zero. success_back m w before store old begun new behind around counts records
+      succeeds = λ zero. success_back m w before store old begun new behind around counts records safe
           (succeeds (well zero).0 (well zero).1 tells sure nodes);
     }
 
@@ -213,18 +246,18 @@ ends_looked m a b new looks (inr begun) =
     inr (record { looked = begun.looked; looks = looks_joined m a b begun.looked looks begun.looks; begins = begun.begins })
 
 steps_looked : {W : Type 0} (m : Meaning W) (said : Words) (a b new : W) (r : Result Report Stop) → Looks m a b → m.tells b
-    → (m.around a).running ≡ [] → m.counts b ≡ m.counts a → BuildsOrStops m said b new r → BuildsOrStops m said a new r
-steps_looked m said a b new (Ok report) looks told idle counts built =
+    → (m.around a).running ≡ [] → m.counts b ≡ m.counts a → RunsSafely m a b → BuildsOrStops m said b new r → BuildsOrStops m said a new r
+steps_looked m said a b new (Ok report) looks told idle counts safe built =
     built_back m said a b new report.status (around_asked (m.around a) (m.around b) idle (looks.around told)) counts
-    (records_kept m a b (looks.banks told)) built
-steps_looked m said a b new (Err stop) looks told idle counts ends = ends_looked m a b new looks ends
+    (records_kept m a b (looks.banks told)) safe built
+steps_looked m said a b new (Err stop) looks told idle counts safe ends = ends_looked m a b new looks ends
 
 pub builds_looked : {W : Type 0} (m : Meaning W) (said : Words) (a b new : W) (r : Result Report Stop) → Looks m a b
-    → (m.tells new → m.tells b) → (m.tells a → (m.around a).running ≡ []) → m.counts b ≡ m.counts a
+    → (m.tells new → m.tells b) → (m.tells a → (m.around a).running ≡ []) → m.counts b ≡ m.counts a → RunsSafely m a b
     → RunBuilds m said b new r → RunBuilds m said a new r
-builds_looked m said a b new r looks told idle counts builds = λ ask tells sure.
+builds_looked m said a b new r looks told idle counts safe builds = λ ask tells sure.
     let here = told tells in
-    steps_looked m said a b new r looks here (idle (looks.told.told here)) counts (builds ask tells sure)
+    steps_looked m said a b new r looks here (idle (looks.told.told here)) counts safe (builds ask tells sure)
 
 -- a run that stops
 pub stops : {W : Type 0} (m : Meaning W) (said : Words) (old new : W) (r : Result Report Stop) (P : Stop → Type 0) → IsErrAnd r P

@@ -62,7 +62,9 @@ returns-clause-builds g c = λ asks ask tells sure.
     let end = c.build-end in
     let told = end.ensures.told.told tells in
     build_done g.W.Disk.meaning c.args.words.now graph requested (map_of store.store) c.args.world.now c.begin_store.new.world end.new.world
-    (map_of end.new.store) end.result c.closed.result.status store.ensures.begins told store.ensures.step (store.ensures.map told)
+    (map_of end.new.store) end.result c.closed.result.status store.ensures.begins
+    (steps_begun g.W.Disk.meaning g.met.W.Disk.reads_as c.args.world.now c.begin_store.new.world c.begin_store.ensures.goes.passes.told store.ensures.begins)
+    told store.ensures.step (store.ensures.map told)
     (are_below_all graph requested nodes) c.closed.ensures.well tells sure end.ensures.runs end.ensures.succeeds
 
 pub returns-in_err-nodes-clause-safe : goal.returns-in_err-nodes-clause-safe
@@ -129,7 +131,9 @@ returns-then-has_trees-clause-builds g c = λ asks ask tells sure.
     let status = c.tell_trees.result.status in
     built_looked m said old end.new.world c.tell_trees.new.world status watches tells (end.ensures.idle here)
     (build_done m said graph requested (map_of store.store) old c.begin_store.new.world end.new.world (map_of end.new.store) end.result
-    status store.ensures.begins told store.ensures.step (store.ensures.map told) (are_below_all graph requested nodes)
+    status store.ensures.begins
+    (steps_begun m g.met.W.Disk.reads_as old c.begin_store.new.world c.begin_store.ensures.goes.passes.told store.ensures.begins)
+    told store.ensures.step (store.ensures.map told) (are_below_all graph requested nodes)
     (λ zero. (has.faults is, has.memory is)) here (watches.looks.told.sure tells sure) end.ensures.runs end.ensures.succeeds)
 
 pub returns-then-has_trees-clause-safe : goal.returns-then-has_trees-clause-safe

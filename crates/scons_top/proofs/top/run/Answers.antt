@@ -60,6 +60,8 @@ returns-clause-builds g c =
     let counts = c.in_ok-requests.ensures.step ∙ ap (λ (o : Outside). o.counts) (c.in_ok-graph.ensures.steps 0) in
     builds_looked g.W.Disk.meaning c.args.words.now c.args.world.now c.requests_of.new.world c.serve.new.world c.serve.result
     (looks_joined _ _ _ _ c.read.ensures.watches.looks c.requests_of.ensures.watches.looks) c.serve.ensures.passes.told.told c.requires.idle counts
+    (steps_looked g.W.Disk.meaning g.met.W.Disk.only_now c.args.world.now c.requests_of.new.world
+    (looks_joined _ _ _ _ c.read.ensures.watches.looks c.requests_of.ensures.watches.looks))
     (c.serve.ensures.builds (subst (AskForNodes c.requests_of.new.graph) (sym c.as_slice.ensures.value) c.in_ok-requests.ensures.nodes))
 
 pub returns-in_err-graph-clause-safe : goal.returns-in_err-graph-clause-safe
