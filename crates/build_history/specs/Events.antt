@@ -1,5 +1,6 @@
 -- What each event makes of a world in memory.
-use Rattle.std.specs.Prelude.{◌≡◌, ◌≢◌, ◌×◌, ℕ, List, [], ◌++◌, ◌∷◌, None, Some, Ok}
+use Rattle.std.specs.Prelude.{◌≡◌, ◌≢◌, ⊥, ℕ, List, [], None, Some, Ok, IsTrue}
+use Rattle.world_api.specs.Looks.{Looks}
 use Rattle.world_api.specs.Meaning.{IsSettled}
 use Rattle.world_api.specs.Statuses.{HasStatus}
 use Rattle.world_api.specs.declared.disk.Bank.{Bank}
@@ -12,6 +13,8 @@ use Rattle.sign_store.specs.Ends.{image_in}
 use Rattle.scons_words.specs.Readings.{read}
 use Rattle.scons_words.specs.declared.words.Words.{Words}
 use Rattle.scons_top.specs.Builds.{Builds}
+use Rattle.scons_top.specs.Cleaned.{Cleans}
+use Rattle.scons_top.specs.Steps.{AllComeAt, ComesTo, LeavesAt}
 use Rattle.scons_top.specs.Stopping.{RunsSafely}
 use Rattle.scons_top.specs.declared.report.Report.{Report}
 
@@ -19,23 +22,29 @@ use Rattle.scons_top.specs.declared.report.Report.{Report}
 abbrev pub AreSettled : MemWorld → Type 0
 AreSettled world = (bank : Bank) → IsSettled world_meaning world bank
 
--- A file was edited by hand: one without a record, in a world whose banks are settled.
+-- A file was edited by hand: one without a record, in a world whose banks are settled, at a place where a file can stand.
 pub record IsEdit (path bytes : List ℕ) (old new : MemWorld) : Type 0 where
   pub settled : AreSettled old
   pub unrecorded : image_in (seen_in old) path ≡ None
+  pub free : IsKept (around_in old) path → ⊥
   pub edits : Edits path bytes (around_in old) (around_in new)
   pub banks : new.banks ≡ old.banks
 
--- A file was removed by hand.
+-- A file was removed by hand, or there was none.
 pub record IsRemoval (path : List ℕ) (old new : MemWorld) : Type 0 where
   pub loses : Loses path (around_in old) (around_in new)
   pub banks : new.banks ≡ old.banks
 
--- The command was run with these words: what is promised of each run of it.
+-- The command was run with these words, with what it promises of each run.
 pub record IsRun (words : List (List ℕ)) (old new : MemWorld) (report : Report) : Type 0 where
+  pub comes : (said : Words) → read words ≡ Ok said → ComesTo said report.step
+  pub leaves : LeavesAt world_meaning report.step old new
+  pub faults : AllComeAt report.step report.faults
+  pub status : HasStatus report.status report.faults
+  pub dry : (said : Words) → read words ≡ Ok said → IsTrue said.dry → Looks world_meaning old new
+  pub cleans : (said : Words) → read words ≡ Ok said → Cleans world_meaning said old new report
   pub builds : (said : Words) → read words ≡ Ok said → Builds world_meaning said old new report
   pub safe : RunsSafely world_meaning old new
-  pub status : HasStatus report.status report.faults
   pub idle : (around_in new).running ≡ []
 
 -- The same world, which fails from so many calls on.
@@ -43,15 +52,12 @@ pub record IsFused (calls : ℕ) (old new : MemWorld) : Type 0 where
   pub calls : new.calls ≡ record old.calls { fuse = Some calls }
   pub state : new.state ≡ old.state
   pub banks : new.banks ≡ old.banks
-  pub faults : new.faults ≡ old.faults
-  pub orders : new.orders ≡ old.orders
 
 -- A world is what a stop leaves of another one, by the outcome with this number.
 pub record IsLeftBy (pick : ℕ) (old new : MemWorld) : Type 0 where
   pub images : (bank : Bank) → world_meaning.image old bank (seen_in new bank)
   pub settled : AreSettled new
   pub left : LeavesBy pick old.state new.state
-  pub unfused : new.calls.fuse ≡ None
 
 -- The command was run with these words in a world that fails from so many calls on, and was stopped there.
 pub record IsStopped (words : List (List ℕ)) (calls pick : ℕ) (old new : MemWorld) : Type 0 where

@@ -1,9 +1,10 @@
 //! How far a history has come, and what each event makes of it.
-ghost use Rattle.std.specs.Prelude.{◌≡◌, [], IfOk, IfErr};
-ghost use Rattle.world_api.specs.Printed.{SinkMeaning};
-ghost use Rattle.build_history.specs.Histories.{IsNext, Refuses, Ran, IsTold};
+ghost use Rattle.std.specs.Prelude.{◌≡◌, ◌++◌, ◌∷◌, [], IfOk, IfErr, OnOk, OnErr};
+ghost use Rattle.world_mem.specs.Means.{around_in};
+ghost use Rattle.build_history.specs.Events.{IsEdit, IsRun, IsStopped};
+ghost use Rattle.build_history.specs.Histories.{RefusesEdit};
 
-use crate::event::{Event, HistoryFault};
+use crate::event::HistoryFault;
 use scons_base::{Blob, Memory, PathText, Text};
 use scons_top::{Report, scons};
 use sign_store::recorded;
@@ -23,7 +24,10 @@ pub struct Told {
 impl Told {
     /// A history in which nothing has happened yet.
     pub(crate) fn new(alloc: Global, world: MemWorld) -> Told
-        ensures { IsTold [] world result }
+        ensures world { result.world ≡ world }
+        ensures trees { result.trees.items ≡ [] }
+        ensures reports { result.reports.items ≡ [] }
+        ensures outs { result.outs.items ≡ [] }
     {
         Told {
             world,
@@ -32,47 +36,27 @@ impl Told {
             outs: Vec::new(alloc),
         }
     }
-
-    /// The history with one event more, which stands at this place.
-    pub(crate) fn after(self, alloc: Global, place: usize, event: &Event) -> Result<Told, HistoryFault>
-        ensures next { IfOk result (IsNext event.now self) }
-        ensures fault { IfErr result (Refuses place event.now self.world) }
-    {
-        let mut told = self;
-        match event {
-            Event::Edit(path, bytes) => edit(alloc, place, &mut told.world, path, bytes.as_slice())?,
-            Event::Delete(path) => told.world.remove_file(path),
-            Event::Build(words) => told.build(alloc, words)?,
-            Event::Stopped(words, calls, pick) => return told.stopped(alloc, words, *calls, *pick),
-        }
-        told.keep_files()?;
-        Ok(told)
-    }
-
-    fn build(&mut self, alloc: Global, words: &[Text]) -> Result<(), HistoryFault> {
-        let (report, out) = run(alloc, words, &mut self.world)?;
-        self.outs.push(Blob::of(alloc, out.text())?)?;
-        self.reports.push(report)?;
-        Ok(())
-    }
-
-    fn stopped(self, alloc: Global, words: &[Text], calls: u32, pick: u32) -> Result<Told, HistoryFault> {
-        let Told { world, trees, reports, outs } = self;
-        let world = stop(alloc, words, calls, pick, world)?;
-        let mut told = Told { world, trees, reports, outs };
-        told.keep_files()?;
-        Ok(told)
-    }
-
-    fn keep_files(&mut self) -> Result<(), HistoryFault> {
-        let files = self.world.files()?;
-        self.trees.push(files)?;
-        Ok(())
-    }
 }
 
-/// Sets the bytes of a file that has no record.
-fn edit(alloc: Global, place: usize, world: &mut MemWorld, path: &PathText, bytes: &[u8]) -> Result<(), HistoryFault> {
+/// A run of the command that ended: its report, and what it printed on standard output.
+#[derive(Drop)]
+pub(crate) struct Ran {
+    pub report: Report,
+    pub printed: Blob,
+}
+
+/// Sets the bytes of a file that has no record. A refusal names the place of the event, and leaves the world as it was.
+pub(crate) fn edit(
+    alloc: Global,
+    place: usize,
+    world: &mut MemWorld,
+    path: &PathText,
+    bytes: &[u8],
+) -> Result<(), HistoryFault>
+    ensures edited { OnOk result (IsEdit path.now bytes.now world.old world.new) }
+    ensures idle { (around_in world.old).running ≡ [] → (around_in world.new).running ≡ [] }
+    ensures fault { IfErr result (RefusesEdit place path.now world.old) }
+{
     if !world.synced(Bank::A) || !world.synced(Bank::B) {
         return Err(HistoryFault::Unsynced(place));
     }
@@ -86,21 +70,35 @@ fn edit(alloc: Global, place: usize, world: &mut MemWorld, path: &PathText, byte
     }
 }
 
-/// The command, printing on two sinks of its own: its report, and what it printed.
-fn run(alloc: Global, words: &[Text], world: &mut MemWorld) -> Result<(Report, MemSink), Memory> {
+/// Runs the command, which prints on two sinks of its own.
+pub(crate) fn run(alloc: Global, words: &[Text], world: &mut MemWorld) -> Result<Ran, Memory>
+    requires idle { (around_in world.old).running ≡ [] }
+    ensures ran { IfOk result (λ ran. IsRun words.now world.old world.new ran.report) }
+{
     let mut out = MemSink::new(alloc, Vec::new(alloc))?;
     let mut err = MemSink::new(alloc, Vec::new(alloc))?;
     let report = scons(alloc, words, world, &mut out, &mut err);
-    Ok((report, out))
+    let printed = Blob::of(alloc, out.text())?;
+    Ok(Ran { report, printed })
 }
 
-/// The command, in a world that fails from so many calls on, and then a stop.
-fn stop(alloc: Global, words: &[Text], calls: u32, pick: u32, world: MemWorld) -> Result<MemWorld, HistoryFault> {
+/// Runs the command in a world that fails from so many calls on, and stops it there.
+pub(crate) fn stop(
+    alloc: Global,
+    words: &[Text],
+    calls: u32,
+    pick: u32,
+    world: MemWorld,
+) -> Result<MemWorld, Memory>
+    requires idle { (around_in world).running ≡ [] }
+    ensures stopped { IfOk result (IsStopped words.now calls pick world) }
+    ensures idle { IfOk result (λ left. (around_in left).running ≡ []) }
+{
     let mut world = world;
     world.fuse(calls);
     run(alloc, words, &mut world)?;
     match world.stop(pick) {
-        Ok(world) => Ok(world),
-        Err(_) => Err(HistoryFault::Memory),
+        Ok(left) => Ok(left),
+        Err(_) => Err(Memory),
     }
 }
