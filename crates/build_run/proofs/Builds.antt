@@ -15,13 +15,16 @@ use Rattle.sign_store.specs.Stores.{IsKept, map_of}
 use Rattle.sign_store.specs.Tables.{Map}
 use Rattle.sign_store.specs.declared.store.Store.{Store}
 use Rattle.build_files.specs.declared.end.ListEnd.{ListEnd}
-use Rattle.build_means.specs.Builds.{Wanted, KeepsRecords, build_in, graph_in, jobs_at_once, setting_in}
+use Rattle.build_means.specs.Builds.{IsByContent, KeepsRecords, Wanted, build_in, graph_in, jobs_at_once, setting_in}
+use Rattle.build_means.specs.Laws.{RunsAreRight}
 use Rattle.build_means.specs.Records.{records_in}
 use Rattle.build_means.specs.Graphs.{act_by}
-use Rattle.build_model.specs.Headline.{IsBuilt}
+use Rattle.build_model.specs.Contents.{View}
+use Rattle.build_model.specs.Graphs.{clean_build}
+use Rattle.build_model.specs.Laws.{EachStep}
 use Rattle.build_model.specs.Records.{AreSound}
 use Rattle.build_model.specs.Rules.{Among, Bytes, Path, Setting}
-use Rattle.build_model.specs.Steps.{Step}
+use Rattle.build_model.specs.Steps.{Build, Step}
 use Rattle.build_model.proofs.Histories.{sound_too}
 use Rattle.scons_base.specs.Rising.{Rose}
 use Rattle.turn_means.proofs.Recording.{begins}
@@ -77,6 +80,18 @@ is_blank account is ended = record {
   unshut = ap (λ (l : Ledger). l.shut) is;
 }
 
+-- no step is a wrong one
+none_among : {A P : Type 0} {x : A} → Among x [] → P
+none_among m = elim m [ ]
+
+no_steps : (s : Setting) (b : Build) (view : View) → EachStep s b view []
+no_steps s b view = record {
+  settled = λ r m. none_among m;
+  fresh = λ r m. none_among m;
+  began = λ r m. none_among m;
+  lacking = λ r p m. none_among m;
+}
+
 -- ---- the records that it went by tell the truth
 
 -- what was safe behind looks was so before them, for all that was met since
@@ -95,7 +110,9 @@ module _ {W : Type 0} (m : Meaning W) (g : RuleGraph) (requested : List NodeId) 
   w = wanted_of g requested options
 
   module _ (h : RuleGraph) (run : Run) (account : Account) (back : m.tells b → m.tells a) (same : m.counts b ≡ m.counts a)
-      (sets : SetsOutBehind m g requested options.hash a store h b mid run) (first : IsBlank account) where
+      (sets : SetsOutBehind m g requested options.hash a store h b mid run) (first : IsBlank account)
+      (reads : m.tells b → IsImage m b (m.seen b)) (kept : IsKept m b mid) (sure_back : m.tells c → m.sure c → m.sure b)
+      (safe : (s : Setting) → IsSafeNow m s a → StaysSafe m s a b) (are_right : RunsAreRight) where
     module _ (tells : m.tells b) (below : are_below (length g.nodes) requested ≡ true) where
       has : HasSetOut m g requested options.hash a (map_of store) h run b (map_of mid)
       has = sets tells (rest (back tells)) below
@@ -125,6 +142,28 @@ module _ {W : Type 0} (m : Meaning W) (g : RuleGraph) (requested : List NodeId) 
           HasMade (o (told tells) below) (m.around c) after (map_of last)
       made tells sure below = makes tells sure (o (told tells) below) (ready (told tells) below)
 
+      -- as it began what stood was safe
+      begun_safe : m.tells b → m.sure b → TellsTruth m (setting_in w (m.around a)) a → IsSafe (setting_in w (m.around a)) (m.around b) (map_of mid)
+      begun_safe tells sure truth =
+          let s = setting_in w (m.around a) in
+          let now = (safe s (safe_first m s a rest (λ t u. record { acts = refl; digests = refl }) truth)).now tells sure in
+          subst (λ (records : Map). IsSafe s (m.around b) records) (kept.each tells (m.seen b) (reads tells)).image (now.images (m.seen b) (reads tells))
+
+      went_by : (tells : m.tells c) → m.sure c → (below : are_below (length g.nodes) requested ≡ true) → TellsTruth m (setting_in w (m.around a)) a →
+          AreSound (setting_in w (has (told tells) below).left) (m.around c).met (has (told tells) below).left.tree (records_in (map_of mid))
+      went_by tells sure below truth =
+          let here = told tells in
+          let behind = has here below in
+          let set = (ready here below).sets.set in
+          sound_before (setting_in w (m.around a)) (setting_in w behind.left) behind.left (m.around b) (m.around c) (map_of mid)
+          (ap act_by behind.rest.law) refl set.around (made tells sure below).met (begun_safe here (sure_back tells sure) truth)
+
+      -- where what stood before told the truth, and by content, the build goes by sound records
+      by_content : (tells : m.tells c) → m.sure c → (below : are_below (length g.nodes) requested ≡ true) → TellsTruth m (setting_in w (m.around a)) a →
+          GoesByContent w (map_of mid) (has (told tells) below).left (m.around c) → IsByContent w (map_of mid) (has (told tells) below).left (m.around c)
+      by_content tells sure below truth by =
+          record { sound = went_by tells sure below truth; distinct = by.distinct; decider = by.decider }
+
       abbrev has_run : (answer : BuildEnd) → answer.is_ended ≡ after.is_ended → m.tells c → m.sure c → are_below (length g.nodes) requested ≡ true →
           HasRun m w (map_of store) a c (map_of last) answer.is_ended
       has_run answer same tells sure below = record {
@@ -135,6 +174,9 @@ module _ {W : Type 0} (m : Meaning W) (g : RuleGraph) (requested : List NodeId) 
         records = λ calm. (made tells sure below).records (not_true after.is_store_shut (λ e. calm (rose e)));
         rests = λ e. (made tells sure below).rests (sym same ∙ e);
         stored = λ e. stands tells ((made tells sure below).unshut (sym same ∙ e));
+        right = λ truth by.
+            are_right w (map_of mid) (m.counts a) (has (told tells) below).left (m.around c) read (made tells sure below).runs
+            (by_content tells sure below truth by);
       }
 
       pub build_ran : (answer : BuildEnd) → answer.is_ended ≡ after.is_ended → BuildRuns m w (map_of store) a c (map_of last) answer
@@ -154,43 +196,21 @@ module _ {W : Type 0} (m : Meaning W) (g : RuleGraph) (requested : List NodeId) 
         };
       }
 
-      module _ (reads : IsImage m b (m.seen b)) (kept : IsKept m b mid) (sure_back : m.sure c → m.sure b)
-          (safe : (s : Setting) → IsSafeNow m s a → StaysSafe m s a b) where
-        -- as it began what stood was safe
-        begun_safe : m.tells b → m.sure b → TellsTruth m (setting_in w (m.around a)) a → IsSafe (setting_in w (m.around a)) (m.around b) (map_of mid)
-        begun_safe tells sure truth =
-            let s = setting_in w (m.around a) in
-            let now = (safe s (safe_first m s a rest (λ t u. record { acts = refl; digests = refl }) truth)).now tells sure in
-            subst (λ (records : Map). IsSafe s (m.around b) records) (kept.each tells (m.seen b) reads).image (now.images (m.seen b) reads)
-
-        went_by : (tells : m.tells c) → m.sure c → (below : are_below (length g.nodes) requested ≡ true) → TellsTruth m (setting_in w (m.around a)) a →
-            AreSound (setting_in w (has (told tells) below).left) (m.around c).met (has (told tells) below).left.tree (records_in (map_of mid))
-        went_by tells sure below truth =
-            let here = told tells in
-            let behind = has here below in
-            let set = (ready here below).sets.set in
-            sound_before (setting_in w (m.around a)) (setting_in w behind.left) behind.left (m.around b) (m.around c) (map_of mid)
-            (ap act_by behind.rest.law) refl set.around (made tells sure below).met (begun_safe here (sure_back sure) truth)
-
-        pub build_succeeded : (answer : BuildEnd) → (answer.faults ≡ [] → answer.memory ≡ false → is_faulted after ≡ false) →
-            BuildSucceeds m w (map_of store) a c (map_of last) answer
-        build_succeeded answer faulted = λ none memory tells sure below.
-            let well = (made tells sure below).succeeds (faulted none memory) in
-            record {
-              left = (has (told tells) below).left;
-              kept = map_of mid;
-              rest = (has (told tells) below).rest;
-              succeeded = well.succeeded;
-              records = well.records;
-              stored =
-                  let did = made tells sure below in
-                  stands tells (did.unshut (not_before after.is_ended (is_faulted after) did.told (faulted none memory)));
-              clean = λ truth by. well.succeeded.built (record {
-                sound = went_by tells sure below truth;
-                distinct = by.distinct;
-                decider = by.decider;
-              });
-            }
+      pub build_succeeded : (answer : BuildEnd) → (answer.faults ≡ [] → answer.memory ≡ false → is_faulted after ≡ false) →
+          BuildSucceeds m w (map_of store) a c (map_of last) answer
+      build_succeeded answer faulted = λ none memory tells sure below.
+          let well = (made tells sure below).succeeds (faulted none memory) in
+          record {
+            left = (has (told tells) below).left;
+            kept = map_of mid;
+            rest = (has (told tells) below).rest;
+            succeeded = well.succeeded;
+            records = well.records;
+            stored =
+                let did = made tells sure below in
+                stands tells (did.unshut (not_before after.is_ended (is_faulted after) did.told (faulted none memory)));
+            clean = λ truth by. well.succeeded.built (by_content tells sure below truth by);
+          }
 
   -- or nothing is made
   abbrev has_refused : (m.tells c → m.tells a) → Leaves m a store c mid (IsLeftAt g (m.around a) (map_of store)) → (answer : BuildEnd) →
@@ -209,6 +229,9 @@ module _ {W : Type 0} (m : Meaning W) (g : RuleGraph) (requested : List NodeId) 
             (begins (record { wanted = w; kept = map_of mid; counts = m.counts a; before = m.around c }) (m.around c));
         rests = λ e. true_false (sym ended ∙ e);
         stored = λ e. true_false (sym ended ∙ e);
+        right = λ truth by.
+            subst (λ (steps : List Step). EachStep (setting_in w (m.around c)) (build_in w (map_of mid) (m.around c) (m.around c))
+            (clean_build (graph_in w (m.around c)) (m.around c).tree) steps) (sym ran.1) (no_steps _ _ _);
       }
 
   pub build_refused : (m.tells c → m.tells a) → Leaves m a store c mid (IsLeftAt g (m.around a) (map_of store)) → (answer : BuildEnd) →

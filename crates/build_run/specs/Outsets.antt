@@ -17,7 +17,9 @@ use Rattle.task_plan.specs.Admits.{Fits}
 use Rattle.task_plan.specs.Met.{AllMet, AreFrom}
 use Rattle.task_plan.specs.Plans.{Planned}
 use Rattle.task_plan.specs.Watched.{IsStill, AreGoingOn, IsFinished}
+use Rattle.build_model.specs.Graphs.{clean_build}
 use Rattle.build_model.specs.Headline.{IsBuilt, IsNeeded}
+use Rattle.build_model.specs.Laws.{EachStep}
 use Rattle.build_model.specs.Records.{AreDistinct}
 use Rattle.build_model.specs.Rules.{Rule, content}
 use Rattle.build_means.specs.Builds.{Wanted, KeepsRecords, Rests, Runs, Succeeded, build_in, graph_in, setting_in}
@@ -152,6 +154,11 @@ FinishesWell g plan old new = (old.is_ended ≡ true → is_faulted old ≡ true
 abbrev pub StandFor : {W : Type 0} → Meaning W → W → Map → Type 0
 StandFor m world map = (banks : Banks) → IsImage m world banks → image_in banks ≡ map
 
+-- A build goes by content alone: no two contents that were met have one digest, and no needed rule has another decider.
+pub record GoesByContent (w : Wanted) (kept : Map) (before after : Around) : Type 0 where
+  pub distinct : AreDistinct (setting_in w before) after.met
+  pub decider : (r : Rule) → IsNeeded (graph_in w before) (build_in w kept before after) r → r.decider ≡ content
+
 -- What a build did: leftover copies went, with their records, and from there it took these steps.
 pub record HasRun {W : Type 0} (m : Meaning W) (w : Wanted) (map : Map) (old new : W) (behind : Map) (ended : Bool) : Type 0 where
   pub left : Around
@@ -165,11 +172,10 @@ pub record HasRun {W : Type 0} (m : Meaning W) (w : Wanted) (map : Map) (old new
   pub rests : ended ≡ false → Rests w kept left (m.around new) runs.steps
   -- nor may a stop leave anything of the banks then that stands for other records
   pub stored : ended ≡ false → StandFor m new behind
-
--- A build goes by content alone: no two contents that were met have one digest, and no needed rule has another decider.
-pub record GoesByContent (w : Wanted) (kept : Map) (before after : Around) : Type 0 where
-  pub distinct : AreDistinct (setting_in w before) after.met
-  pub decider : (r : Rule) → IsNeeded (graph_in w before) (build_in w kept before after) r → r.decider ≡ content
+  -- Where what stood before told the truth, and by content, each step is right by the clean build: what was started was needed and
+  -- stale, and what was settled is as it is there.
+  pub right : TellsTruth m (setting_in w (m.around old)) old → GoesByContent w kept left (m.around new) →
+      EachStep (setting_in w left) (build_in w kept left (m.around new)) (clean_build (graph_in w left) left.tree) runs.steps
 
 -- What a build did that ended well, and that its steps left these records.
 pub record HasSucceeded {W : Type 0} (m : Meaning W) (w : Wanted) (map : Map) (old new : W) (behind : Map) : Type 0 where

@@ -24,6 +24,7 @@ use crate::leftovers::take_leftovers;
 use crate::site::{Run, Site};
 use crate::tickets::Tickets;
 use build_files::{Inputs, ListEnd, first_target};
+use build_means::runs_are_right;
 use indexmap::IndexSet;
 use rule_graph::{BuildFault, Graph};
 use scons_base::limits::JOB_LIMIT;
@@ -88,6 +89,7 @@ pub fn build<W: World, O: Sink, E: Sink>(
         world.new out.new (map_of store.new) result }
 {
     graph.laws();
+    runs_are_right();
     let mut account = Account::new(alloc);
     match set_out(alloc, options.hash, graph, requested, store, world) {
         Ok(mut run) => {

@@ -17,7 +17,9 @@ use Rattle.rule_graph.specs.Rules.{are_below}
 use Rattle.sign_store.specs.Ends.{image_in}
 use Rattle.sign_store.specs.Images.{image_of}
 use Rattle.sign_store.specs.Tables.{Map}
+use Rattle.build_model.specs.Graphs.{clean_build}
 use Rattle.build_model.specs.Headline.{IsBuilt}
+use Rattle.build_model.specs.Laws.{EachStep}
 use Rattle.build_model.specs.Steps.{Step}
 use Rattle.build_means.specs.Builds.{Wanted, KeepsRecords, Rests, Runs, Succeeded, build_in, graph_in, setting_in}
 use Rattle.build_files.proofs.Left.{none_runs}
@@ -50,8 +52,16 @@ records_kept m a b kept =
 
 -- what was done, from what was around, the counts and the records
 
+-- what a build left and did is what a build from sources alone does
+abbrev IsCleanly : (w : Wanted) → Map → Around → Around → List Step → Type 0
+IsCleanly w kept left after steps = IsBuilt (graph_in w left) (build_in w kept left after) steps
+
+-- each step of it is right by that build
+abbrev AreRight : (w : Wanted) → Map → Around → Around → List Step → Type 0
+AreRight w kept left after steps = EachStep (setting_in w left) (build_in w kept left after) (clean_build (graph_in w left) left.tree) steps
+
 record RanFrom {W : Type 0} (m : Meaning W) (w : Wanted) (map : Map) (start : Around) (counts : Counts) (new : W)
-    (behind : Map) (ended : Bool) : Type 0 where
+    (behind : Map) (ended : Bool) (truth : Type 0) : Type 0 where
   left : Around
   kept : Map
   rest : LeavesRest (IsLeftAt w.graph start map) start map left kept
@@ -59,10 +69,7 @@ record RanFrom {W : Type 0} (m : Meaning W) (w : Wanted) (map : Map) (start : Ar
   records : (Rose counts.disk_faults (m.counts new).disk_faults → ⊥) → KeepsRecords w kept left (m.around new) runs.steps behind
   rests : ended ≡ false → Rests w kept left (m.around new) runs.steps
   stored : ended ≡ false → StandFor m new behind
-
--- what a build left and did is what a build from sources alone does
-abbrev IsCleanly : (w : Wanted) → Map → Around → Around → List Step → Type 0
-IsCleanly w kept left after steps = IsBuilt (graph_in w left) (build_in w kept left after) steps
+  right : truth → GoesByContent w kept left (m.around new) → AreRight w kept left (m.around new) runs.steps
 
 record SucceededFrom {W : Type 0} (m : Meaning W) (w : Wanted) (map : Map) (start : Around) (counts : Counts) (new : W)
     (behind : Map) (truth : Type 0) : Type 0 where
@@ -76,13 +83,28 @@ record SucceededFrom {W : Type 0} (m : Meaning W) (w : Wanted) (map : Map) (star
 
 module _ {W : Type 0} (m : Meaning W) (w : Wanted) (before after : Map) (a b new : W) (behind : Map)
     (around : m.around b ≡ m.around a) (counts : m.counts b ≡ m.counts a) (records : after ≡ before) where
-  pub run_back : (ended : Bool) → HasRun m w after b new behind ended → HasRun m w before a new behind ended
-  run_back ended h =
-      let r : RanFrom m w after (m.around b) (m.counts b) new behind ended =
-      record { left = h.left; kept = h.kept; rest = h.rest; runs = h.runs; records = h.records; rests = h.rests; stored = h.stored } in
-      let one = subst (λ x. RanFrom m w after x (m.counts b) new behind ended) around r in
-      let two = subst (λ c. RanFrom m w after (m.around a) c new behind ended) counts one in
-      let back = subst (λ (map : Map). RanFrom m w map (m.around a) (m.counts a) new behind ended) records two in
+  truth_on : RunsSafely m a b → TellsTruth m (setting_in w (m.around a)) a → TellsTruth m (setting_in w (m.around b)) b
+  truth_on safe told =
+      subst (λ x. TellsTruth m (setting_in w x) b) (sym around)
+      (safe (setting_in w (m.around a)) (λ tells sure. record { acts = refl; digests = refl }) told).now
+
+  pub run_back : RunsSafely m a b → (ended : Bool) → HasRun m w after b new behind ended → HasRun m w before a new behind ended
+  run_back safe ended h =
+      let truth = TellsTruth m (setting_in w (m.around b)) b in
+      let r : RanFrom m w after (m.around b) (m.counts b) new behind ended truth =
+      record {
+        left = h.left;
+        kept = h.kept;
+        rest = h.rest;
+        runs = h.runs;
+        records = h.records;
+        rests = h.rests;
+        stored = h.stored;
+        right = h.right;
+      } in
+      let one = subst (λ x. RanFrom m w after x (m.counts b) new behind ended truth) around r in
+      let two = subst (λ c. RanFrom m w after (m.around a) c new behind ended truth) counts one in
+      let back = subst (λ (map : Map). RanFrom m w map (m.around a) (m.counts a) new behind ended truth) records two in
       record {
         left = back.left;
         kept = back.kept;
@@ -91,6 +113,7 @@ module _ {W : Type 0} (m : Meaning W) (w : Wanted) (before after : Map) (a b new
         records = back.records;
         rests = back.rests;
         stored = back.stored;
+        right = λ told. back.right (truth_on safe told);
       }
 
   pub success_back : RunsSafely m a b → HasSucceeded m w after b new behind → HasSucceeded m w before a new behind
@@ -118,11 +141,6 @@ module _ {W : Type 0} (m : Meaning W) (w : Wanted) (before after : Map) (a b new
         stored = back.stored;
         clean = λ told. back.clean (truth_on safe told);
       }
-    where
-      truth_on : RunsSafely m a b → TellsTruth m (setting_in w (m.around a)) a → TellsTruth m (setting_in w (m.around b)) b
-      truth_on safe told =
-          subst (λ x. TellsTruth m (setting_in w x) b) (sym around)
-          (safe (setting_in w (m.around a)) (λ tells sure. record { acts = refl; digests = refl }) told).now
 
 -- looks behind a build that rests
 
@@ -139,6 +157,7 @@ record RanTo {W : Type 0} (m : Meaning W) (w : Wanted) (map : Map) (old : W) (en
   runs : Runs w kept (m.counts old) left end
   records : (Rose (m.counts old).disk_faults disk → ⊥) → KeepsRecords w kept left end runs.steps behind
   rests : ended ≡ false → Rests w kept left end runs.steps
+  right : TellsTruth m (setting_in w (m.around old)) old → GoesByContent w kept left end → AreRight w kept left end runs.steps
 
 record SucceededTo {W : Type 0} (m : Meaning W) (w : Wanted) (map : Map) (old : W) (end : Around) (behind : Map) : Type 0 where
   left : Around
@@ -155,7 +174,7 @@ module _ {W : Type 0} (m : Meaning W) (w : Wanted) (map : Map) (old a b : W) (be
       let first = (m.counts old).disk_faults in
       let disk = (m.counts a).disk_faults in
       let r : RanTo m w map old (m.around a) disk behind ended =
-      record { left = h.left; kept = h.kept; rest = h.rest; runs = h.runs; records = h.records; rests = h.rests } in
+      record { left = h.left; kept = h.kept; rest = h.rest; runs = h.runs; records = h.records; rests = h.rests; right = h.right } in
       let on = subst (λ x. RanTo m w map old x disk behind ended) (sym around) r in
       record {
         left = on.left;
@@ -165,6 +184,7 @@ module _ {W : Type 0} (m : Meaning W) (w : Wanted) (map : Map) (old a b : W) (be
         records = λ none. on.records (λ rose. none (rose_on first disk (m.counts b).disk_faults rose later.disk));
         rests = on.rests;
         stored = λ is. stand_looked m a b behind same (h.stored is);
+        right = on.right;
       }
 
   pub success_on : HasSucceeded m w map old a behind → HasSucceeded m w map old b behind
@@ -211,7 +231,7 @@ built_back m said a b new status around counts records safe h =
       are_nodes = h.are_nodes;
       kept = h.kept;
       is_ended = h.is_ended;
-      runs = run_back m w before after a b new h.kept around counts records h.is_ended h.runs;
+      runs = run_back m w before after a b new h.kept around counts records safe h.is_ended h.runs;
       succeeds = λ well. success_back m w before after a b new h.kept around counts records safe (h.succeeds well);
     }
 
@@ -233,7 +253,7 @@ build_done m said g requested store old begun new behind answer status begins sa
       are_nodes = nodes;
       kept = behind;
       is_ended = answer.is_ended;
-      runs = run_back m w before store old begun new behind around counts records answer.is_ended (runs tells sure nodes);
+      runs = run_back m w before store old begun new behind around counts records safe answer.is_ended (runs tells sure nodes);
       succeeds = λ zero. success_back m w before store old begun new behind around counts records safe
           (succeeds (well zero).0 (well zero).1 tells sure nodes);
     }

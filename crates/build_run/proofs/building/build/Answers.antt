@@ -60,6 +60,8 @@ returns-in-Ok-clause-runs g c =
     c.make_all-skipped.new.world c.args.store.now c.set_out.new.store c.requires.idle c.set_out.new.graph c.in-Ok.run' c.new-account.result
     c.set_out.ensures.goes.passes.told.told c.in-Ok.ensures.cause
     c.in-Ok.ensures.sets (is_blank c.new-account.result c.new-account.ensures.ledger c.new-account.ensures.ended)
+    (g.met.W.Disk.reads_as c.set_out.new.world) c.in-Ok.ensures.kept c.make_all-skipped.ensures.passes.told.sure c.set_out.ensures.safe
+    c.runs_are_right.ensures
     c.make_all-skipped.new.account c.make_all-skipped.ensures.passes.told.told
     c.make_all-skipped.new.store c.make_all-skipped.ensures.makes made.shut c.make_all-skipped.ensures.stored c.answer.result c.answer.ensures.ended
 
@@ -73,10 +75,10 @@ returns-in-Ok-clause-succeeds g c =
     c.make_all-skipped.new.world c.args.store.now c.set_out.new.store c.requires.idle c.set_out.new.graph c.in-Ok.run' c.new-account.result
     c.set_out.ensures.goes.passes.told.told c.in-Ok.ensures.cause
     c.in-Ok.ensures.sets (is_blank c.new-account.result c.new-account.ensures.ledger c.new-account.ensures.ended)
+    (g.met.W.Disk.reads_as c.set_out.new.world) c.in-Ok.ensures.kept c.make_all-skipped.ensures.passes.told.sure c.set_out.ensures.safe
+    c.runs_are_right.ensures
     c.make_all-skipped.new.account c.make_all-skipped.ensures.passes.told.told
-    c.make_all-skipped.new.store c.make_all-skipped.ensures.makes made.shut c.make_all-skipped.ensures.stored
-    (λ tells. g.met.W.Disk.reads_as c.set_out.new.world tells) c.in-Ok.ensures.kept c.make_all-skipped.ensures.passes.told.sure
-    c.set_out.ensures.safe c.answer.result c.answer.ensures.faulted
+    c.make_all-skipped.new.store c.make_all-skipped.ensures.makes made.shut c.make_all-skipped.ensures.stored c.answer.result c.answer.ensures.faulted
 
 pub returns-in-Err-clause-runs : goal.returns-in-Err-clause-runs
 returns-in-Err-clause-runs g c =
@@ -106,7 +108,9 @@ returns-in-Ok-clause-safe g c =
     has_outset m c.args.graph.now c.args.requested.now c.args.options.now read c.args.world.now mid
     c.make_all-skipped.new.world c.args.store.now c.set_out.new.store c.requires.idle c.set_out.new.graph c.in-Ok.run' c.new-account.result
     c.set_out.ensures.goes.passes.told.told c.in-Ok.ensures.cause
-    c.in-Ok.ensures.sets (is_blank c.new-account.result c.new-account.ensures.ledger c.new-account.ensures.ended) tells below)))
+    c.in-Ok.ensures.sets (is_blank c.new-account.result c.new-account.ensures.ledger c.new-account.ensures.ended)
+    (g.met.W.Disk.reads_as c.set_out.new.world) c.in-Ok.ensures.kept c.make_all-skipped.ensures.passes.told.sure c.set_out.ensures.safe
+    c.runs_are_right.ensures tells below)))
 
 pub returns-in-Err-clause-safe : goal.returns-in-Err-clause-safe
 returns-in-Err-clause-safe g c =
@@ -129,6 +133,8 @@ returns-in-Ok-clause-prints g c =
     c.make_all-skipped.new.world c.args.store.now c.set_out.new.store c.requires.idle c.set_out.new.graph c.in-Ok.run' c.new-account.result
     c.set_out.ensures.goes.passes.told.told c.in-Ok.ensures.cause
     c.in-Ok.ensures.sets (is_blank c.new-account.result c.new-account.ensures.ledger c.new-account.ensures.ended)
+    (g.met.W.Disk.reads_as c.set_out.new.world) c.in-Ok.ensures.kept c.make_all-skipped.ensures.passes.told.sure c.set_out.ensures.safe
+    c.runs_are_right.ensures
     c.make_all-skipped.new.account c.make_all-skipped.ensures.passes.told.told
     c.make_all-skipped.new.store c.make_all-skipped.ensures.makes made.shut c.make_all-skipped.ensures.stored
     g.O.Sink.meaning c.args.out.now c.make_all-skipped.new.out c.make_all-skipped.ensures.prints c.answer.result c.answer.ensures.ended
