@@ -21,6 +21,7 @@ use Rattle.task_plan.specs.declared.want.PlanEvent.{PlanEvent}
 use Rattle.task_plan.specs.declared.want.PlanEvent.TheVariants as told
 use Rattle.build_model.specs.Rules.{Path}
 use Rattle.build_model.proofs.Lists.{true_false}
+use Rattle.build_means.proofs.Lists.{or_first, or_second}
 use Rattle.task_plan.proofs.ListLemmas.{get-front}
 use Rattle.build_run.specs.Firsts.{first_target_of}
 use Rattle.build_files.specs.Searched.{GrowsTo}
@@ -54,28 +55,24 @@ noted_more g ended noted faults more rule (IsNoted.over e) = IsNoted.over e
 noted_more g ended noted faults more rule (IsNoted.stands path named among any) =
     IsNoted.stands path named among (any.0, Contains-append_left faults (more ∷ []) any.0 any.1, any.2)
 
--- a rule more
-among_more : (noted : List RuleId) (more : RuleId) (rule : ℕ) → is_among rule noted ≡ true → is_among rule (noted ++ more ∷ []) ≡ true
-among_more noted more rule h = list_any-append (λ r. nat_eq r.0 rule) noted (more ∷ []) ∙ first (is_among rule noted) (is_among rule (more ∷ [])) h
-  where
-    first : (a c : Bool) → a ≡ true → (a || c) ≡ true
-    first true c e = refl
-    first false c e = true_false (sym e)
+-- among some rules, and among further ones
+pub among_front : (rules more : List RuleId) (rule : ℕ) → is_among rule rules ≡ true → is_among rule (rules ++ more) ≡ true
+among_front rules more rule h = list_any-append (λ r. nat_eq r.0 rule) rules more ∙ or_first (is_among rule rules) (is_among rule more) h
+
+pub among_back : (rules more : List RuleId) (rule : ℕ) → is_among rule more ≡ true → is_among rule (rules ++ more) ≡ true
+among_back rules more rule h = list_any-append (λ r. nat_eq r.0 rule) rules more ∙ or_second (is_among rule rules) (is_among rule more) h
 
 among_now : (noted : List RuleId) (rule : RuleId) → is_among rule.0 (noted ++ rule ∷ []) ≡ true
-among_now noted rule = list_any-append (λ r. nat_eq r.0 rule.0) noted (rule ∷ []) ∙ second (is_among rule.0 noted) (is_among rule.0 (rule ∷ [])) (here rule.0)
+among_now noted rule = among_back noted (rule ∷ []) rule.0 (here rule.0)
   where
-    second : (a c : Bool) → c ≡ true → (a || c) ≡ true
-    second true c e = refl
-    second false c e = e
-
     here : (n : ℕ) → (nat_eq n n || false) ≡ true
     here n = grind (arith, nat_tests)
 
+-- a rule more
 pub noted_beside : (g : RuleGraph) (ended : Bool) (noted : List RuleId) (faults : List BuildFault) (more : RuleId) (rule : ℕ) → IsNoted g ended noted faults rule →
     IsNoted g ended (noted ++ more ∷ []) faults rule
 noted_beside g ended noted faults more rule (IsNoted.over e) = IsNoted.over e
-noted_beside g ended noted faults more rule (IsNoted.stands path named among any) = IsNoted.stands path named (among_more noted more rule among) any
+noted_beside g ended noted faults more rule (IsNoted.stands path named among any) = IsNoted.stands path named (among_front noted (more ∷ []) rule among) any
 
 -- the rule itself, of a fault that was kept
 pub noted_now : (g : RuleGraph) (ended : Bool) (noted : List RuleId) (faults : List BuildFault) (rule : RuleId) (f : BuildFault) (path : Path) → first_target_of g rule.0 ≡ Some path → IsOfRule path f →

@@ -1,24 +1,26 @@
 -- That what a build says that it skipped is so by its steps.
-use Rattle.std.proofs.Common.{◌≡◌, ◌≢◌, ◌<◌, ◌≤◌, ◌+◌, ◌∙◌, ◌⊎◌, inl, inr, ⊎_elim, ap, sym, subst, refl, ℕ, zero, suc, length, length-append, get_or, List, [], ◌∷◌, ◌++◌, Option, Some, None, Bool, true, false, ◌||◌, if◌then◌else◌, arith}
+use Rattle.std.proofs.Common.{◌≡◌, ◌≢◌, ◌<◌, ◌≤◌, ◌+◌, ◌∙◌, ◌⊎◌, inl, inr, ⊎_elim, ap, sym, subst, refl, ℕ, zero, suc, length, length-append, get_or, map, List, [], ◌∷◌, ◌++◌, Option, Some, None, Bool, true, false, ◌||◌, if◌then◌else◌, arith}
 use Rattle.std.specs.Prelude.{nat_eq, slice_get}
 use Rattle.std.specs.List.{count_by}
 use Rattle.std.specs.Option.{option_and_then, option_map, unwrap_or}
-use Rattle.std.proofs.lemmas.Bool.Decides.{nat_tests}
+use Rattle.std.proofs.lemmas.Bool.Decides.{Decides-eqb, nat_tests}
 use Rattle.std.proofs.lemmas.List.Folds.{list_any-append}
 use Rattle.std.proofs.lemmas.Option.{none-some, same_Some, slice_get_within, slice_get-get_or}
 use Rattle.std.proofs.lemmas.List.{length-map}
+use Rattle.std.proofs.lemmas.Map.Keys.{apart_from_distinct}
 use Rattle.scons_base.specs.declared.ids.NodeId.{NodeId}
 use Rattle.scons_base.specs.declared.ids.RuleId.{RuleId}
 use Rattle.world_api.specs.Meaning.{Meaning}
 use Rattle.rule_graph.specs.declared.rule.Rule as declared
 use Rattle.rule_graph.specs.Graphs.{RuleGraph}
+use Rattle.rule_graph.specs.Rules.{is_target_of}
 use Rattle.sign_store.specs.Stores.{map_of}
 use Rattle.sign_store.specs.Tables.{Map}
 use Rattle.sign_store.specs.declared.store.Store.{Store}
 use Rattle.task_plan.specs.Cycles.{IsCycle}
 use Rattle.task_plan.specs.Orders.{is_among}
 use Rattle.task_plan.specs.Plans.{Planned, AreMet}
-use Rattle.task_plan.specs.Held.{firsts, AreHeld, HasAllHeld}
+use Rattle.task_plan.specs.Held.{firsts, AreHeld, HasAllHeld, HasEachOnce, IsHeldBy}
 use Rattle.task_plan.specs.States.{is_faulty as is_faulty_state, is_running, state_of}
 use Rattle.task_plan.specs.Watched.{IsStill}
 use Rattle.task_plan.specs.declared.states.RuleState.{RuleState}
@@ -27,13 +29,13 @@ use Rattle.task_plan.proofs.ListLemmas.{get-front, get-last}
 use Rattle.task_plan.proofs.RestLemmas.{place_in}
 use Rattle.build_model.specs.Moments.{Job as Given}
 use Rattle.build_model.specs.Resting.{IsFaulty}
-use Rattle.build_model.specs.Rules.{Path, Rule, Among}
+use Rattle.build_model.specs.Rules.{Path, Rule, Among, here}
 use Rattle.build_model.specs.Steps.{Step, settled}
 use Rattle.build_model.proofs.Lists.{true_false, some_same}
 use Rattle.build_model.proofs.Resting.{faulty_unsettled}
 use Rattle.build_means.specs.Grown.{Begun, rule_numbered}
-use Rattle.build_means.specs.Rules.{paths_of}
-use Rattle.build_means.proofs.Lists.{or_either, or_first, or_second}
+use Rattle.build_means.specs.Rules.{IsReading, paths_of}
+use Rattle.build_means.proofs.Lists.{or_either, there_any}
 use Rattle.build_run.specs.Firsts.{first_target_of}
 use Rattle.plan_means.specs.Deciding.{IsTied}
 use Rattle.plan_means.specs.Holding.{HasFault, NeedsItself}
@@ -51,10 +53,11 @@ use Rattle.build_run.specs.Along.{standing_of, IsAtEnd, KeepsEnds}
 use Rattle.build_run.specs.Causes.{HasAny}
 use Rattle.build_run.specs.Noted.{AreNotedBy, IsNoted, IsNotedIn, IsOfRule, KeepsNoted, SiteNotes}
 use Rattle.build_run.specs.Outsets.{FinishesWell}
-use Rattle.build_run.specs.Skips.{IsAtFault, AreAtFault, AreNamed, TakesFaulty, IsHeldPair, AreHeldPairs, HasHeldPairs, HoldsNeedy, HoldsBack, NeedsBy, IsNeededBy, HasPair, IsSkip, AreSkips, HasMadeSkipping}
+use Rattle.build_run.specs.Skips.{IsAtFault, AreAtFault, AreNamed, AreNamedTo, TakesFaulty, AreHeldPairs, HasHeldPairs, HoldsNeedy, HoldsBack, NeedsBy, IsNeededBy, HasPair, IsSkip, AreSkips, HasMadeSkipping}
 use Rattle.build_run.specs.declared.account.Account.{Account}
 use Rattle.build_run.specs.declared.site.Site.{Site}
 use Rattle.build_run.proofs.EndingOn.{not_before}
+use Rattle.build_run.proofs.Noting.{among_back, among_front}
 use Rattle.build_run.proofs.Finishing.{at_last, has_made, its, made_steps, none_counts}
 
 same_number : (m n : ℕ) → nat_eq m n ≡ true → m ≡ n
@@ -66,12 +69,6 @@ one_of next rule h = by (nat_eq next.0 rule) refl h
     by : (c : Bool) → nat_eq next.0 rule ≡ c → (c || false) ≡ true → rule ≡ next.0
     by true is k = sym (same_number next.0 rule is)
     by false is k = true_false (sym k)
-
-among_front : (rules more : List RuleId) (rule : ℕ) → is_among rule rules ≡ true → is_among rule (rules ++ more) ≡ true
-among_front rules more rule h = list_any-append (λ r. nat_eq r.0 rule) rules more ∙ or_first (is_among rule rules) (is_among rule more) h
-
-among_back : (rules more : List RuleId) (rule : ℕ) → is_among rule more ≡ true → is_among rule (rules ++ more) ≡ true
-among_back rules more rule h = list_any-append (λ r. nat_eq r.0 rule) rules more ∙ or_second (is_among rule rules) (is_among rule more) h
 
 within_or : (n m : ℕ) → (n < m) ⊎ (m ≤ n)
 within_or n m = grind arith
@@ -120,11 +117,6 @@ module _ (plan : Planned) where
 
 -- ---- pairs of paths
 
--- the first so many of these pairs of rules were named, one after another
-pub record AreNamedTo (g : RuleGraph) (held : List (RuleId × RuleId)) (count : ℕ) (pairs : List (Path × Path)) : Type 0 where
-  pub size : length pairs ≡ count
-  pub each : (n : ℕ) (paths : Path × Path) → slice_get pairs n ≡ Some paths → (pair : RuleId × RuleId) × (slice_get held n ≡ Some pair) × AreNamed g pair paths
-
 module _ (g : RuleGraph) (held : List (RuleId × RuleId)) where
   pub none_named : (pairs : List (Path × Path)) → pairs ≡ [] → AreNamedTo g held 0 pairs
   none_named pairs none = record {
@@ -165,35 +157,87 @@ module _ (g : RuleGraph) (held : List (RuleId × RuleId)) where
           let k = last n other e le in
           (get_or held count d, ap (slice_get held) k.0 ∙ slice_get-get_or held count d lt, subst (λ (x : Path × Path). AreNamed g (get_or held count d) x) (sym k.1) named)
 
-  -- all were: they name just what is held
-  module _ (plan : Planned) (noted faulty : List RuleId) (at_fault : AreAtFault plan faulty) (takes : TakesFaulty plan noted faulty)
-      (real : AreHeld plan.states plan.rules plan.notes.waiters faulty held) (all : HasAllHeld plan.states plan.rules plan.notes.waiters faulty held) where
-    pub held_named : (count : ℕ) (pairs : List (Path × Path)) → length held ≤ count → AreNamedTo g held count pairs → AreHeldPairs g plan noted pairs
-    held_named count pairs le a = record {
-      faulty = faulty;
-      at_fault = at_fault;
-      takes = takes;
-      each = λ n paths e.
-          let k = a.each n paths e in
-          record { pair = k.0; named = k.2; held = real.held n k.0 k.1; stands = real.fault n k.0 k.1 };
-      all = λ number fault m h.
-          let r : RuleId = record { 0 = number } in
-          let p = place_in (firsts held) r (all.all number fault m h) in
-          let size = length-map held (λ (pair : RuleId × RuleId). pair.0) in
-          let within = slice_get_within (firsts held) p.0 r p.1 in
-          let d : Path × Path = ([], []) in
-          let count_is = a.size in
-          let paths = get_or pairs p.0 d in
-          let at : slice_get pairs p.0 ≡ Some paths = slice_get-get_or pairs p.0 d (omega (arith, size, within, count_is, le)) in
-          let k = a.each p.0 paths at in
-          let same : k.0.0 ≡ r = same_Some k.0.0 r (sym (first_at held p.0 k.0 k.1) ∙ p.1) in
-          record { place = p.0; paths = paths; at = at; first = ap (λ (x : RuleId). first_target_of g x.0) (sym same) ∙ k.2.first };
-    }
-      where
-        first_at : (xs : List (RuleId × RuleId)) (n : ℕ) (pair : RuleId × RuleId) → slice_get xs n ≡ Some pair → slice_get (firsts xs) n ≡ Some pair.0
-        first_at [] n pair e = absurd (none-some pair e)
-        first_at (x ∷ xs) zero pair e = ap (λ (o : Option (RuleId × RuleId)). option_map (λ p. p.0) o) e
-        first_at (x ∷ xs) (suc n) pair e = first_at xs n pair e
+  -- all were
+  pub held_named : (plan : Planned) (noted faulty : List RuleId) → AreAtFault plan faulty → TakesFaulty plan noted faulty →
+      AreHeld plan.states plan.rules plan.notes.waiters faulty held → HasAllHeld plan.states plan.rules plan.notes.waiters faulty held →
+      HasEachOnce held → (count : ℕ) (pairs : List (Path × Path)) → count ≡ length held → AreNamedTo g held count pairs →
+      AreHeldPairs g plan noted pairs
+  held_named plan noted faulty at_fault takes real all once count pairs whole named = record {
+    faulty = faulty;
+    at_fault = at_fault;
+    takes = takes;
+    held = held;
+    real = real;
+    all = all;
+    once = once;
+    named = subst (λ n. AreNamedTo g held n pairs) whole named;
+  }
+
+-- a pair names the rule with this number first
+record IsNamedIn (g : RuleGraph) (number : ℕ) (pairs : List (Path × Path)) : Type 0 where
+  place : ℕ
+  paths : Path × Path
+  at : slice_get pairs place ≡ Some paths
+  first : first_target_of g number ≡ Some paths.0
+
+first_at : (xs : List (RuleId × RuleId)) (n : ℕ) (pair : RuleId × RuleId) → slice_get xs n ≡ Some pair → slice_get (firsts xs) n ≡ Some pair.0
+first_at [] n pair e = absurd (none-some pair e)
+first_at (x ∷ xs) zero pair e = ap (λ (o : Option (RuleId × RuleId)). option_map (λ p. p.0) o) e
+first_at (x ∷ xs) (suc n) pair e = first_at xs n pair e
+
+module _ (g : RuleGraph) (plan : Planned) (noted : List RuleId) (pairs : List (Path × Path)) (a : AreHeldPairs g plan noted pairs) where
+  named_in : (number fault : ℕ) → is_among fault a.faulty ≡ true →
+      IsHeldBy plan.states plan.rules plan.notes.waiters a.faulty fault number → IsNamedIn g number pairs
+  named_in number fault m h =
+      let r : RuleId = record { 0 = number } in
+      let p = place_in (firsts a.held) r (a.all.all number fault m h) in
+      let size = length-map a.held (λ (pair : RuleId × RuleId). pair.0) in
+      let within = slice_get_within (firsts a.held) p.0 r p.1 in
+      let d : Path × Path = ([], []) in
+      let count_is = a.named.size in
+      let paths = get_or pairs p.0 d in
+      let at : slice_get pairs p.0 ≡ Some paths = slice_get-get_or pairs p.0 d (omega (arith, size, within, count_is)) in
+      let k = a.named.each p.0 paths at in
+      let same : k.0.0 ≡ r = same_Some k.0.0 r (sym (first_at a.held p.0 k.0 k.1) ∙ p.1) in
+      record {
+        place = p.0;
+        paths = paths;
+        at = at;
+        first = ap (λ (x : RuleId). first_target_of g x.0) (sym same) ∙ k.2.first;
+      }
+
+  -- two places at which one rule stands first are one
+  same_place : (n m : ℕ) (one two : RuleId × RuleId) → slice_get a.held n ≡ Some one → slice_get a.held m ≡ Some two → one.0.0 ≡ two.0.0 → n ≡ m
+  same_place n m one two at also same = by (order_of n m)
+    where
+      numbers : List ℕ
+      numbers = map (λ (pair : RuleId × RuleId). pair.0.0) a.held
+
+      number_at : (xs : List (RuleId × RuleId)) (n d : ℕ) (pair : RuleId × RuleId) → slice_get xs n ≡ Some pair →
+          get_or (map (λ (p : RuleId × RuleId). p.0.0) xs) n d ≡ pair.0.0
+      number_at [] n d pair e = absurd (none-some pair e)
+      number_at (x ∷ xs) zero d pair e = ap (λ (p : RuleId × RuleId). p.0.0) (same_Some x pair e)
+      number_at (x ∷ xs) (suc n) d pair e = number_at xs n d pair e
+
+      apart : (i j : ℕ) (x y : RuleId × RuleId) → i < j → slice_get a.held i ≡ Some x → slice_get a.held j ≡ Some y → x.0.0 ≡ y.0.0 → ⊥
+      apart i j x y lt e f is =
+          let size = length-map a.held (λ (pair : RuleId × RuleId). pair.0.0) in
+          let within = slice_get_within a.held j y f in
+          let differ : nat_eq (get_or numbers i 0) (get_or numbers j 0) ≡ false =
+          apart_from_distinct nat_eq numbers i j 0 a.once lt (omega (arith, size, within)) in
+          true_false (sym (ap (λ n. nat_eq n y.0.0) is ∙ self y.0.0) ∙ ap (λ n. nat_eq n y.0.0) (sym (number_at a.held i 0 x e))
+          ∙ ap (λ n. nat_eq (get_or numbers i 0) n) (sym (number_at a.held j 0 y f)) ∙ differ)
+        where
+          self : (n : ℕ) → nat_eq n n ≡ true
+          self n = grind (arith, nat_tests)
+
+      order_of : (n m : ℕ) → (n < m) ⊎ ((m < n) ⊎ (n ≡ m))
+      order_of n m = grind arith
+
+      by : (n < m) ⊎ ((m < n) ⊎ (n ≡ m)) → n ≡ m
+      by (inl lt) = absurd (apart n m one two lt at also same)
+      by (inr (inl lt)) = absurd (apart m n two one lt also at (sym same))
+      by (inr (inr e)) = e
 
 -- ---- by names
 
@@ -209,6 +253,38 @@ named_first b g now number r path is h =
     (ap (λ (o : Option declared.Rule). option_and_then (λ x. option_and_then (λ n. slice_get g.nodes n.0) (slice_get x.targets 0)) o) (sym there.at) ∙ h) in
     subst (λ (x : Rule). slice_get x.targets 0 ≡ Some path) (some_same (sym named.is ∙ is))
     (ap (λ (l : List Path). slice_get l 0) (sym named.names.targets) ∙ first)
+
+-- a graph has one rule with this first target
+one_first : (g : RuleGraph) → IsReading g → (n m : ℕ) (path : Path) → first_target_of g n ≡ Some path → first_target_of g m ≡ Some path → n ≡ m
+one_first g reading n m path e f =
+    let one = first_node n e in
+    let two = first_node m f in
+    let same : one.node.0 ≡ two.node.0 = some_same (sym (reading.apart one.node.0 path one.path) ∙ reading.apart two.node.0 path two.path) in
+    some_same (sym (reading.single n one.node.0 one.of one.at one.target)
+    ∙ reading.single m one.node.0 two.of two.at (ap (is_target_of two.of.targets) same ∙ two.target))
+  where
+    record HasFirst (number : ℕ) : Type 0 where
+      of : declared.Rule
+      at : slice_get g.rules number ≡ Some of
+      node : NodeId
+      target : is_target_of of.targets node.0 ≡ true
+      path : slice_get g.nodes node.0 ≡ Some path
+
+    first_node : (number : ℕ) → first_target_of g number ≡ Some path → HasFirst number
+    first_node number h = by (slice_get g.rules number) refl h
+      where
+        by : (o : Option declared.Rule) → slice_get g.rules number ≡ o →
+            option_and_then (λ r. option_and_then (λ n. slice_get g.nodes n.0) (slice_get r.targets 0)) o ≡ Some path → HasFirst number
+        by None e h = absurd (none-some path h)
+        by (Some r) e h = in_targets r.targets refl h
+          where
+            in_targets : (targets : List NodeId) → r.targets ≡ targets → option_and_then (λ n. slice_get g.nodes n.0) (slice_get targets 0) ≡ Some path → HasFirst number
+            in_targets [] are k = absurd (none-some path k)
+            in_targets (n ∷ targets) are k =
+                record { of = r; at = e; node = n; target = ap (λ (l : List NodeId). is_target_of l n.0) are ∙ is_here n targets; path = k }
+
+            is_here : (n : NodeId) (targets : List NodeId) → is_target_of (n ∷ targets) n.0 ≡ true
+            is_here n targets = there_any (λ (t : NodeId). nat_eq t.0 n.0) (let m : Among n (n ∷ targets) = here in m) ((Decides-eqb n.0 n.0).1 refl)
 
 -- ---- by steps
 
@@ -271,21 +347,29 @@ module _ (o : Outset) (outset : IsOutset o) (jobs : List Given) (s : Standing) (
       HoldsBack.by_cycle (subst (λ (x : Rule). NeedsThem x x) (some_same (sym k.is ∙ is)) k.needs)
 
   module _ (pairs : List (Path × Path)) (a : AreHeldPairs s.graph s.plan account.faulty.items pairs) where
-    skip : (paths : Path × Path) → IsHeldPair s.graph s.plan a.faulty paths → IsSkip o.wanted o.kept o.before s.around past account.faults.items paths
-    skip paths h =
-        let fault = a.at_fault.each h.pair.1.0 h.stands in
-        let back = held_back (begun_at o) s.graph o.wanted.requested (build_at o s.around) past s.plan tied a.faulty h.pair.1.0 h.pair.0.0
-        (at_fault_needed h.pair.1.0 fault) h.held in
+    skip : (n : ℕ) (paths : Path × Path) → slice_get pairs n ≡ Some paths → IsSkip o.wanted o.kept o.before s.around past account.faults.items paths
+    skip n paths e =
+        let h = a.named.each n paths e in
+        let fault = a.at_fault.each h.0.1.0 (a.real.fault n h.0 h.1) in
+        let back = held_back (begun_at o) s.graph o.wanted.requested (build_at o s.around) past s.plan tied a.faulty h.0.1.0 h.0.0.0
+        (at_fault_needed h.0.1.0 fault) (a.real.held n h.0 h.1) in
         record {
           rule = back.rule;
           other = back.other;
-          first = named_first (begun_at o) s.graph tied.graph h.pair.0.0 back.rule paths.0 back.is h.named.first;
-          first_other = named_first (begun_at o) s.graph tied.graph h.pair.1.0 back.other paths.1 back.is_other h.named.second;
+          first = named_first (begun_at o) s.graph tied.graph h.0.0.0 back.rule paths.0 back.is h.2.first;
+          first_other = named_first (begun_at o) s.graph tied.graph h.0.1.0 back.other paths.1 back.is_other h.2.second;
           needs = back.needs;
           untouched = back.untouched;
           well = back.well;
-          why = why_at_fault h.pair.1.0 back.other paths.1 fault back.is_other h.named.second;
+          why = why_at_fault h.0.1.0 back.other paths.1 fault back.is_other h.2.second;
         }
+
+    stands_once : (n m : ℕ) (paths other : Path × Path) → slice_get pairs n ≡ Some paths → slice_get pairs m ≡ Some other → paths.0 ≡ other.0 → n ≡ m
+    stands_once n m paths other e f same =
+        let one = a.named.each n paths e in
+        let two = a.named.each m other f in
+        same_place s.graph s.plan account.faulty.items pairs a n m one.0 two.0 one.1 two.1
+        (one_first s.graph tied.graph.reading one.0.0.0 two.0.0.0 other.0 (one.2.first ∙ ap (λ (p : Path). Some p) same) two.2.first)
 
     module _ (still : IsStill s.plan) (count : count_by is_running s.plan.states ≡ 0) (holds : HoldsNeedy s.graph s.plan) where
       -- all that is at fault by the steps was taken over
@@ -308,7 +392,8 @@ module _ (o : Outset) (outset : IsOutset o) (jobs : List Given) (s : Standing) (
       pair_by : (number : ℕ) (r : Rule) → rule_numbered (begun_at o) s.graph number ≡ Some r → HasFault s.plan a.faulty number → HasPair pairs r
       pair_by number r is f =
           let plan_for = tied.ties.plan_for in
-          let named = a.all number f.fault f.stands (holds plan_for.complete plan_for.from plan_for.fits a.faulty f.fault number f.needs) in
+          let named = named_in s.graph s.plan account.faulty.items pairs a number f.fault f.stands
+          (holds plan_for.complete plan_for.from plan_for.fits a.faulty f.fault number f.needs) in
           record { place = named.place; paths = named.paths; at = named.at; first = named_first (begun_at o) s.graph tied.graph number r named.paths.0 is named.first }
 
       has_pair : (r q : Rule) → IsNeededBy o.wanted o.kept o.before s.around past r → NeedsThem r q → IsFaulty past q →
@@ -325,7 +410,7 @@ module _ (o : Outset) (outset : IsOutset o) (jobs : List Given) (s : Standing) (
               (has_fault (begun_at o) s.graph o.wanted.requested (build_at o s.around) past s.plan tied still count a.faulty taken q f number r is need needs e)))
 
       pub skips : AreSkips o.wanted o.kept o.before s.around past account.faults.items pairs
-      skips = record { each = λ n paths e. skip paths (a.each n paths e); all = has_pair }
+      skips = record { each = skip; once = stands_once; all = has_pair }
 
 module _ {W O E : Type 0} (m : Meaning W) (o : Outset) (outset : IsOutset o) (mid : Site W O E) (after : Account)
     (there : IsAtEnd m o mid) (rest : (m.around mid.world.now).running ≡ [])

@@ -11,7 +11,7 @@ use Rattle.sign_store.specs.Tables.{Map}
 use Rattle.sign_store.specs.declared.store.Store.{Store}
 use Rattle.task_plan.specs.Cycles.{IsCycle}
 use Rattle.task_plan.specs.Admits.{Fits}
-use Rattle.task_plan.specs.Held.{IsHeldBy, HoldWhatNeeds}
+use Rattle.task_plan.specs.Held.{AreHeld, HasAllHeld, HasEachOnce, HoldWhatNeeds}
 use Rattle.task_plan.specs.Met.{AreFrom}
 use Rattle.task_plan.specs.Watched.{IsComplete}
 use Rattle.task_plan.specs.Orders.{is_among}
@@ -48,31 +48,27 @@ pub record AreNamed (g : RuleGraph) (pair : RuleId × RuleId) (paths : Path × P
   pub first : first_target_of g pair.0.0 ≡ Some paths.0
   pub second : first_target_of g pair.1.0 ≡ Some paths.1
 
--- a pair names a rule that waits, and one of these at fault that holds it
-pub record IsHeldPair (g : RuleGraph) (plan : Planned) (faulty : List RuleId) (paths : Path × Path) : Type 0 where
-  pub pair : RuleId × RuleId
-  pub named : AreNamed g pair paths
-  pub held : IsHeldBy plan.states plan.rules plan.notes.waiters faulty pair.1.0 pair.0.0
-  pub stands : is_among pair.1.0 faulty ≡ true
-
--- a pair names the rule with this number first
-pub record IsNamedIn (g : RuleGraph) (number : ℕ) (pairs : List (Path × Path)) : Type 0 where
-  pub place : ℕ
-  pub paths : Path × Path
-  pub at : slice_get pairs place ≡ Some paths
-  pub first : first_target_of g number ≡ Some paths.0
+-- pair by pair these paths name so many of the rules that are held, each with the one at fault
+pub record AreNamedTo (g : RuleGraph) (held : List (RuleId × RuleId)) (count : ℕ) (pairs : List (Path × Path)) : Type 0 where
+  pub size : length pairs ≡ count
+  pub each : (n : ℕ) (paths : Path × Path) → slice_get pairs n ≡ Some paths →
+      (pair : RuleId × RuleId) × (slice_get held n ≡ Some pair) × AreNamed g pair paths
 
 -- those of the noted rules that are at fault by the plan are among these
 abbrev pub TakesFaulty : Planned → List RuleId → List RuleId → Type 0
 TakesFaulty plan noted rules = (rule : ℕ) → is_among rule noted ≡ true → is_faulty (state_of plan.states rule) ≡ true → is_among rule rules ≡ true
 
--- These pairs name just the rules that some at fault hold, among them all noted ones that are at fault by the plan.
+-- These pairs name just the rules that some at fault hold, each once; among those at fault are all noted ones that are so by
+-- the plan.
 pub record AreHeldPairs (g : RuleGraph) (plan : Planned) (noted : List RuleId) (pairs : List (Path × Path)) : Type 0 where
   pub faulty : List RuleId
   pub at_fault : AreAtFault plan faulty
   pub takes : TakesFaulty plan noted faulty
-  pub each : (n : ℕ) (paths : Path × Path) → slice_get pairs n ≡ Some paths → IsHeldPair g plan faulty paths
-  pub all : (number fault : ℕ) → is_among fault faulty ≡ true → IsHeldBy plan.states plan.rules plan.notes.waiters faulty fault number → IsNamedIn g number pairs
+  pub held : List (RuleId × RuleId)
+  pub real : AreHeld plan.states plan.rules plan.notes.waiters faulty held
+  pub all : HasAllHeld plan.states plan.rules plan.notes.waiters faulty held
+  pub once : HasEachOnce held
+  pub named : AreNamedTo g held (length held) pairs
 
 -- unless memory was wanting for them
 abbrev pub HasHeldPairs : RuleGraph → Planned → Account → List (Path × Path) → Type 0
@@ -121,10 +117,12 @@ pub record HasPair (pairs : List (Path × Path)) (rule : Rule) : Type 0 where
   pub at : slice_get pairs place ≡ Some paths
   pub first : slice_get rule.targets 0 ≡ Some paths.0
 
--- Each of these pairs is such, and a needed rule that needs one at fault, directly or through others, is at fault itself, needs
--- itself, or has its pair.
+-- Each of these pairs is such, no rule stands first in two of them, and a needed rule that needs one at fault, directly or
+-- through others, is at fault itself, needs itself, or has its pair.
 pub record AreSkips (w : Wanted) (kept : Kept) (before after : Around) (steps : List Step) (faults : List BuildFault) (pairs : List (Path × Path)) : Type 0 where
   pub each : (n : ℕ) (paths : Path × Path) → slice_get pairs n ≡ Some paths → IsSkip w kept before after steps faults paths
+  pub once : (n m : ℕ) (paths other : Path × Path) → slice_get pairs n ≡ Some paths → slice_get pairs m ≡ Some other →
+      paths.0 ≡ other.0 → n ≡ m
   pub all : (r q : Rule) → IsNeededBy w kept before after steps r → NeedsBy w kept before after steps r q → IsFaulty steps q →
       IsFaulty steps r ⊎ (NeedsBy w kept before after steps r r ⊎ HasPair pairs r)
 

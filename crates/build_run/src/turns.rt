@@ -159,6 +159,7 @@ impl<W: World, O: Sink, E: Sink> Site<'_, '_, W, O, E> {
         ensures texts { SiteKeepsTold E.meaning self.old self.new }
         ensures last { EndsLast result }
         ensures noted { SiteKeepsNoted self.old self.new }
+        ensures fails { NotesDone self.new.graph.now self.new.account.now result }
         ensures plan { self.new.run.now.plan ≡ self.old.run.now.plan }
     {
         let found = self.run.inputs.scanned(self.world, self.graph, rule, file)?;

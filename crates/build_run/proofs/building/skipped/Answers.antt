@@ -13,5 +13,5 @@ loop-pair-preserved c =
 pub returns : goal.returns
 returns c =
     held_named c.args.graph.now c.in_ok-held.held c.args.plan.now c.args.account.now.faulty.items c.in_ok-faulty.faulty.items
-    c.in_ok-faulty.ensures.at_fault c.in_ok-faulty.ensures.takes c.in_ok-held.ensures.real c.in_ok-held.ensures.all c.loop-pair.pair-index
-    c.loop-pair.pairs.items (omega arith) c.loop-pair.invariant
+    c.in_ok-faulty.ensures.at_fault c.in_ok-faulty.ensures.takes c.in_ok-held.ensures.real c.in_ok-held.ensures.all c.in_ok-held.ensures.once
+    c.loop-pair.pair-index c.loop-pair.pairs.items (omega arith) c.loop-pair.invariant

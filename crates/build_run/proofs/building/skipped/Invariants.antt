@@ -1,4 +1,4 @@
-use Rattle.build_run.proofs.Skipping.{AreNamedTo}
+use Rattle.build_run.specs.Skips.{AreNamedTo}
 use Rattle.build_run.proofs.building.skipped.Given as goal
 
 abbrev pub invariant-loop-pair : goal.invariant-loop-pair
