@@ -149,7 +149,7 @@ module _ {W : Type 0} (m : Meaning W) (g : RuleGraph) (requested : List NodeId) 
     pub build_skipped : (after : Account) (told : m.tells c → m.tells b) (last : Store) (skipped : List (Path × Path)) →
         MakesSkipping m h run mid b account options c after last skipped →
         (after.is_store_shut ≡ true → Rose (m.counts a).disk_faults (m.counts c).disk_faults) → StaysKept m c last after →
-        (answer : BuildEnd) → answer.is_ended ≡ after.is_ended → answer.faults ≡ after.faults.items → answer.skipped ≡ skipped → BuildSkips m w store a last c answer
+        (answer : BuildEnd) → answer.is_ended ≡ after.is_ended → answer.faults ≡ after.faults.items → answer.skipped ≡ skipped → BuildSkips m g requested options store a last c answer
     unfolding made build_ran
     build_skipped after told last skipped skips rose stays answer same reported said = λ tells sure below. record {
       run = build_ran after told last (λ t s x r. (skips t s x r).made) rose stays answer same tells sure below;
@@ -203,7 +203,7 @@ module _ {W : Type 0} (m : Meaning W) (g : RuleGraph) (requested : List NodeId) 
   }
 
   pub refused_skips : (m.tells c → m.tells a) → Leaves m a store c mid (IsLeftAt g (m.around a) (map_of store)) → (answer : BuildEnd) →
-      answer.is_ended ≡ true → BuildSkips m w store a mid c answer
+      answer.is_ended ≡ true → BuildSkips m g requested options store a mid c answer
   refused_skips back leaves answer ended = λ tells sure below. record {
     run = build_refused back leaves answer ended tells sure below;
     skips = λ e. true_false (sym ended ∙ e);

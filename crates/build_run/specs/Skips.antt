@@ -1,5 +1,6 @@
 -- Which rules a build says that it skipped, and for which others.
 use Rattle.std.specs.Prelude.{◌≡◌, ◌⊎◌, ℕ, true, false, List, Some, length, slice_get}
+use Rattle.scons_base.specs.declared.ids.NodeId.{NodeId}
 use Rattle.scons_base.specs.declared.ids.RuleId.{RuleId}
 use Rattle.world_api.specs.Around.{Around}
 use Rattle.world_api.specs.Meaning.{Meaning}
@@ -26,7 +27,7 @@ use Rattle.build_run.specs.Firsts.{first_target_of}
 use Rattle.turn_means.specs.Standing.{Outset}
 use Rattle.build_run.specs.Causes.{HasAny}
 use Rattle.build_run.specs.Noted.{IsOfRule}
-use Rattle.build_run.specs.Outsets.{HasMade, HasRun, IsReadyFor}
+use Rattle.build_run.specs.Outsets.{wanted_of, HasMade, HasRun, IsReadyFor}
 use Rattle.build_run.specs.declared.account.Account.{Account}
 use Rattle.build_run.specs.declared.building.Options.{Options}
 use Rattle.build_run.specs.declared.end.BuildEnd.{BuildEnd}
@@ -143,6 +144,7 @@ pub record HasSkipped {W : Type 0} (m : Meaning W) (w : Wanted) (map : Map) (old
   pub skips : answer.is_ended ≡ false → AreSkips w run.kept run.left (m.around new) run.runs.steps answer.faults answer.skipped
 
 -- So builds do, in a world that tells and is sure, where the requested nodes are the graph's.
-abbrev pub BuildSkips : {W : Type 0} → Meaning W → Wanted → Store → W → Store → W → BuildEnd → Type 0
-BuildSkips m w store old new_store new answer = m.tells new → m.sure new → are_below (length w.graph.nodes) w.requested ≡ true →
-    HasSkipped m w (map_of store) old new (map_of new_store) answer
+abbrev pub BuildSkips : {W : Type 0} → Meaning W → RuleGraph → List NodeId → Options → Store → W → Store → W → BuildEnd → Type 0
+BuildSkips m g requested options store old new_store new answer =
+    m.tells new → m.sure new → are_below (length g.nodes) requested ≡ true →
+    HasSkipped m (wanted_of g requested options) (map_of store) old new (map_of new_store) answer

@@ -83,9 +83,9 @@ pub fn build<W: World, O: Sink, E: Sink>(
     ensures later { Later (W.meaning.counts world.old) (W.meaning.counts world.new) }
     ensures idle { W.meaning.tells world.new → (W.meaning.around world.new).running ≡ [] }
     ensures causes { BuildCauses W.meaning O.meaning E.meaning world.old out.old err.old world.new out.new err.new result }
-    ensures runs { RunsOver W.meaning (wanted_of graph.old requested.now options.now) store.old world.old store.new world.new result }
-    ensures succeeds { SucceedsOver W.meaning (wanted_of graph.old requested.now options.now) store.old world.old store.new world.new result }
-    ensures skips { BuildSkips W.meaning (wanted_of graph.old requested.now options.now) store.old world.old store.new world.new result }
+    ensures runs { RunsOver W.meaning graph.old requested.now options.now store.old world.old store.new world.new result }
+    ensures succeeds { SucceedsOver W.meaning graph.old requested.now options.now store.old world.old store.new world.new result }
+    ensures skips { BuildSkips W.meaning graph.old requested.now options.now store.old world.old store.new world.new result }
     ensures safe { BuildsSafely W.meaning (wanted_of graph.old requested.now options.now) world.old world.new }
     ensures ends { EndsForReason options.now result }
     ensures tells { BuildTells E.meaning err.old err.new result }
