@@ -9,6 +9,7 @@ use Rattle.world_api.specs.Meaning.{Meaning, IsImage}
 use Rattle.world_api.specs.Printed.{SinkMeaning}
 use Rattle.world_api.specs.declared.hash.Hash.{Hash}
 use Rattle.rule_graph.specs.Graphs.{RuleGraph}
+use Rattle.rule_graph.specs.declared.build_fault.BuildFault.{BuildFault}
 use Rattle.rule_graph.specs.Rules.{are_below}
 use Rattle.sign_store.specs.Ends.{image_in}
 use Rattle.sign_store.specs.Stores.{IsKept, map_of}
@@ -39,6 +40,7 @@ use Rattle.build_run.specs.Ledgers.{Ledger, ledger_of, blank}
 use Rattle.build_run.specs.Output.{BuildPrints, MakesPrinted}
 use Rattle.build_run.specs.Outsets.{wanted_of, GoesByContent, BuildRuns, BuildSucceeds, HasMade, HasRun, HasSetOut, IsBlank, IsReadyFor, Leaves, MakesAll, SetsOut, SetsOutBehind, StandFor, StaysKept}
 use Rattle.build_run.specs.Safe.{HasOutset, IsSafeNow, StaysSafe}
+use Rattle.build_run.specs.Skips.{AreSkips, BuildSkips, MakesSkipping}
 use Rattle.build_run.specs.Takes.{IsLeftAt}
 use Rattle.build_run.specs.Truth.{TellsTruth}
 use Rattle.build_run.specs.declared.account.Account.{Account}
@@ -212,6 +214,22 @@ module _ {W : Type 0} (m : Meaning W) (g : RuleGraph) (requested : List NodeId) 
             clean = λ truth by. well.succeeded.built (by_content tells sure below truth by);
           }
 
+    -- and what it skipped
+    pub build_skipped : (after : Account) (told : m.tells c → m.tells b) (last : Store) (skipped : List (Path × Path)) →
+        MakesSkipping m h run mid b account options c after last skipped →
+        (after.is_store_shut ≡ true → Rose (m.counts a).disk_faults (m.counts c).disk_faults) → StaysKept m c last after →
+        (answer : BuildEnd) → answer.is_ended ≡ after.is_ended → answer.faults ≡ after.faults.items → answer.skipped ≡ skipped → BuildSkips m g requested options store a last c answer
+    unfolding made build_ran
+    build_skipped after told last skipped skips rose stays answer same reported said = λ tells sure below. record {
+      run = build_ran after told last (λ t s x r. (skips t s x r).made) rose stays answer same tells sure below;
+      skips = λ e.
+          let did = skips tells sure (o (told tells) below) (ready (told tells) below) in
+          subst (λ (pairs : List (Path × Path)).
+          AreSkips w (map_of mid) (has (told tells) below).left (m.around c) did.made.runs.steps answer.faults pairs) (sym said)
+          (subst (λ (faults : List BuildFault).
+          AreSkips w (map_of mid) (has (told tells) below).left (m.around c) did.made.runs.steps faults skipped) (sym reported) (did.skips (sym same ∙ e)));
+    }
+
   -- or nothing is made
   abbrev has_refused : (m.tells c → m.tells a) → Leaves m a store c mid (IsLeftAt g (m.around a) (map_of store)) → (answer : BuildEnd) →
       answer.is_ended ≡ true → m.tells c → HasRun m w (map_of store) a c (map_of mid) answer.is_ended
@@ -254,6 +272,13 @@ module _ {W : Type 0} (m : Meaning W) (g : RuleGraph) (requested : List NodeId) 
       steps = steps_printed p (begun_here tells below) (record { reading = read; below = below }) options (m.around c) out out
           (has_refused back leaves answer ended tells).runs (none_printed p (begun_here tells below) options (m.around c) out refl);
     };
+  }
+
+  pub refused_skips : (m.tells c → m.tells a) → Leaves m a store c mid (IsLeftAt g (m.around a) (map_of store)) → (answer : BuildEnd) →
+      answer.is_ended ≡ true → BuildSkips m g requested options store a mid c answer
+  refused_skips back leaves answer ended = λ tells sure below. record {
+    run = build_refused back leaves answer ended tells sure below;
+    skips = λ e. true_false (sym ended ∙ e);
   }
 
   pub refused_untold : (after : Account) → is_faulted after ≡ true → (answer : BuildEnd) →

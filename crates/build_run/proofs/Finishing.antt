@@ -71,7 +71,7 @@ module _ (o : Outset) (outset : IsOutset o) (jobs : List Given) (s : Standing) (
   known : Knows o s past
   known = at.knows not_ended
 
-  its : IsTied (begun_at o) s.graph o.wanted.requested (build_at o s.around) past s.plan
+  pub its : IsTied (begun_at o) s.graph o.wanted.requested (build_at o s.around) past s.plan
   its = tied o outset jobs s past at.way known
 
   not_running : (number : ℕ) → state_of s.plan.states number ≡ Running → ⊥
@@ -112,10 +112,10 @@ module _ {W O E : Type 0} (m : Meaning W) (o : Outset) (outset : IsOutset o) (mi
     no_halt : mid.run.now.plan.halted ≡ false
     no_halt = not_before mid.run.now.plan.halted mid.account.now.is_ended (λ e. (on.at.halted e).ended) not_ended
 
-    at_last : IsStill mid.run.now.plan
+    pub at_last : IsStill mid.run.now.plan
     at_last = still no_halt
 
-    none_counts : count_by is_running mid.run.now.plan.states ≡ 0
+    pub none_counts : count_by is_running mid.run.now.plan.states ≡ 0
     none_counts = count_is_none o outset on.jobs s on.past on.at not_ended rest
 
     comes_to_rest : Rests o.wanted o.kept o.before s.around on.past
@@ -158,6 +158,11 @@ module _ {W O E : Type 0} (m : Meaning W) (o : Outset) (outset : IsOutset o) (mi
         met = on.at.way.met;
         succeeds = ended_well;
       }
+
+  -- by the steps at which it stood
+  pub made_steps : has_made.runs.steps ≡ on.past
+  unfolding has_made
+  made_steps = (runs o outset on.jobs s on.past on.at).1
 
 -- ---- as it begins
 

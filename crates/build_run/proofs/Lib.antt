@@ -20,6 +20,8 @@ mod Launching
 mod Leaving
 mod Outsetting
 mod Finishing
+pub mod Noting
+mod Skipping
 mod Builds
 mod Safely
 mod Stopping

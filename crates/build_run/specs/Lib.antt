@@ -2,9 +2,11 @@ pub mod Along
 pub mod Books
 pub mod Causes
 pub mod Counting
+pub mod Firsts
 pub mod Goings
 pub mod Holds
 pub mod Ledgers
+pub mod Noted
 pub mod Outs
 pub mod FaultTexts
 pub mod StartTexts
@@ -14,6 +16,7 @@ pub mod Reasons
 pub mod Safe
 pub mod Shown
 pub mod Sites
+pub mod Skips
 pub mod Takes
 pub mod Truth
 pub mod Withdrawals

@@ -200,9 +200,11 @@ abbrev pub BuildSucceeds : {W : Type 0} → Meaning W → Wanted → Map → W �
 BuildSucceeds m w map old new behind answer = answer.faults ≡ [] → answer.memory ≡ false → m.tells new → m.sure new →
     are_below (length w.graph.nodes) w.requested ≡ true → HasSucceeded m w map old new behind
 
--- the same by the store from before and the one behind
-abbrev pub RunsOver : {W : Type 0} → Meaning W → Wanted → Store → W → Store → W → BuildEnd → Type 0
-RunsOver m w store old new_store new answer = BuildRuns m w (map_of store) old new (map_of new_store) answer
+-- the same by what a build is called with
+abbrev pub RunsOver : {W : Type 0} → Meaning W → RuleGraph → List NodeId → Options → Store → W → Store → W → BuildEnd → Type 0
+RunsOver m g requested options store old new_store new answer =
+    BuildRuns m (wanted_of g requested options) (map_of store) old new (map_of new_store) answer
 
-abbrev pub SucceedsOver : {W : Type 0} → Meaning W → Wanted → Store → W → Store → W → BuildEnd → Type 0
-SucceedsOver m w store old new_store new answer = BuildSucceeds m w (map_of store) old new (map_of new_store) answer
+abbrev pub SucceedsOver : {W : Type 0} → Meaning W → RuleGraph → List NodeId → Options → Store → W → Store → W → BuildEnd → Type 0
+SucceedsOver m g requested options store old new_store new answer =
+    BuildSucceeds m (wanted_of g requested options) (map_of store) old new (map_of new_store) answer

@@ -28,6 +28,8 @@ impl Account {
     ghost use Rattle.build_run.specs.Along.{is_faulted, IsEnd, KeepsEnds};
     ghost use Rattle.build_run.specs.FaultTexts.{KeepsFault, KeepsTold, SameTold, Shows, ShowsIf};
     ghost use Rattle.build_run.specs.Ledgers.{ledger_of, blank, wanting, with_fault, with_end, Keeps, Reports};
+    ghost use Rattle.rule_graph.specs.declared.build_fault.BuildFault.{BuildFault};
+    ghost use Rattle.build_run.specs.Noted.{IsKeptIn, KeepsFaults, KeepsNoted, NotesRule};
     ghost use Rattle.build_run.specs.Reasons.{IsLast, IsLastEnd, IsReasoned, KeepsReason, StaysReasoned};
 
     pub(crate) fn new(alloc: Global) -> Account
@@ -49,12 +51,14 @@ impl Account {
     }
 
     /// Nothing new starts any more.
+    #[tactic(auto, using(crate::proofs::Noting::noting))]
     pub(crate) fn end<E: Sink>(&mut self, err: &mut E, end: ListEnd)
         ensures reports { Reports E.meaning err.old self.old (with_end (ledger_of self.old) end) err.new self.new }
         ensures ends { IsEnd self.new }
         ensures memory { end ≡ ListEnd.Memory → self.new.memory ≡ true }
         ensures reason { IsLastEnd end → IsReasoned self.new }
         ensures texts { KeepsTold E.meaning err.old self.old err.new self.new }
+        ensures noted { KeepsNoted self.old self.new }
     {
         self.is_ended = true;
         match end {
@@ -64,6 +68,7 @@ impl Account {
     }
 
     /// A rule is at fault, and others may go on where that was asked.
+    #[tactic(auto, using(crate::proofs::Noting::noting))]
     pub(crate) fn fail<E: Sink>(
         &mut self,
         err: &mut E,
@@ -77,6 +82,8 @@ impl Account {
         ensures goes { self.new.is_ended ≡ false → goes_on ≡ true }
         ensures reason { KeepsReason goes_on self.old self.new }
         ensures texts { KeepsTold E.meaning err.old self.old err.new self.new }
+        ensures noted { KeepsNoted self.old self.new }
+        ensures notes { NotesRule self.new rule.0 fault }
     {
         self.report(err, fault);
         self.note_faulty(rule);
@@ -84,6 +91,7 @@ impl Account {
     }
 
     /// Keeps a fault and prints it.
+    #[tactic(auto, using(crate::proofs::Noting::noting))]
     pub(crate) fn report<E: Sink>(&mut self, err: &mut E, fault: BuildFault)
         ensures reports { Reports E.meaning err.old self.old (with_fault (ledger_of self.old) fault) err.new self.new }
         ensures ends { KeepsEnds self.old self.new }
@@ -91,6 +99,8 @@ impl Account {
         ensures reason { StaysReasoned self.old self.new }
         ensures texts { KeepsTold E.meaning err.old self.old err.new self.new }
         ensures last { IsLast fault → IsReasoned self.new }
+        ensures noted { KeepsNoted self.old self.new }
+        ensures kept { IsKeptIn self.new fault }
     {
         let text = fault_text(self.alloc, &fault);
         self.keep(fault);
@@ -98,11 +108,14 @@ impl Account {
     }
 
     /// Prints a text, unless standard error has refused before. Want of memory for it is noted.
+    #[tactic(auto, using(crate::proofs::Noting::noting))]
     fn show<E: Sink>(&mut self, err: &mut E, text: Result<String, Memory>)
         ensures reports { Reports E.meaning err.old self.old (ledger_of self.old) err.new self.new }
         ensures ends { KeepsEnds self.old self.new }
         ensures reason { StaysReasoned self.old self.new }
         ensures shows { ShowsIf E.meaning err.old self.old (λ s. string_bytes s) text err.new self.new }
+        ensures noted { KeepsNoted self.old self.new }
+        ensures faults { KeepsFaults self.old self.new }
     {
         if self.is_err_shut {
             return;
@@ -114,11 +127,14 @@ impl Account {
     }
 
     /// Prints a text. A sink that refuses is noted.
+    #[tactic(auto, using(crate::proofs::Noting::noting))]
     fn write<E: Sink>(&mut self, err: &mut E, text: &str)
         ensures reports { Reports E.meaning err.old self.old (ledger_of self.old) err.new self.new }
         ensures ends { KeepsEnds self.old self.new }
         ensures reason { StaysReasoned self.old self.new }
         ensures shows { self.old.is_err_shut ≡ false → Shows E.meaning err.old self.old text.now err.new self.new }
+        ensures noted { KeepsNoted self.old self.new }
+        ensures faults { KeepsFaults self.old self.new }
     {
         match print(err, text) {
             Ok(()) => {}
@@ -130,13 +146,17 @@ impl Account {
         }
     }
 
+    #[tactic(auto, using(crate::proofs::Noting::noting))]
     fn keep(&mut self, fault: BuildFault)
         ensures keeps { Keeps self.old (with_fault (ledger_of self.old) fault) self.new }
         ensures ends { KeepsEnds self.old self.new }
         ensures faulted { is_faulted self.new ≡ true }
         ensures reason { StaysReasoned self.old self.new }
-        ensures kept { KeepsFault self.old fault self.new }
+        ensures adds { KeepsFault self.old fault self.new }
         ensures last { IsLast fault → IsReasoned self.new }
+        ensures noted { KeepsNoted self.old self.new }
+        ensures faults { KeepsFaults self.old self.new }
+        ensures kept { IsKeptIn self.new fault }
     {
         match self.faults.push(fault) {
             Ok(()) => {}
@@ -144,22 +164,28 @@ impl Account {
         }
     }
 
+    #[tactic(auto, using(crate::proofs::Noting::noting))]
     pub(crate) fn want_memory(&mut self)
         ensures ledger { ledger_of self.new ≡ wanting (ledger_of self.old) }
         ensures ends { IsEnd self.new }
         ensures memory { self.new.memory ≡ true }
         ensures reason { IsReasoned self.new }
         ensures same { SameTold self.old self.new }
+        ensures noted { KeepsNoted self.old self.new }
+        ensures faults { KeepsFaults self.old self.new }
     {
         self.memory = true;
         self.is_ended = true;
     }
 
+    #[tactic(auto, using(crate::proofs::Noting::noting))]
     fn note_faulty(&mut self, rule: RuleId)
         ensures keeps { Keeps self.old (ledger_of self.old) self.new }
         ensures ends { KeepsEnds self.old self.new }
         ensures reason { StaysReasoned self.old self.new }
         ensures same { SameTold self.old self.new }
+        ensures noted { KeepsNoted self.old self.new }
+        ensures notes { (f : BuildFault) → IsKeptIn self.old f → NotesRule self.new rule.0 f }
     {
         match self.faulty.push(rule) {
             Ok(()) => {}
@@ -167,11 +193,13 @@ impl Account {
         }
     }
 
+    #[tactic(auto, using(crate::proofs::Noting::noting))]
     pub(crate) fn note_start(&mut self, rule: RuleId)
         ensures keeps { Keeps self.old (ledger_of self.old) self.new }
         ensures ends { KeepsEnds self.old self.new }
         ensures reason { StaysReasoned self.old self.new }
         ensures same { SameTold self.old self.new }
+        ensures noted { KeepsNoted self.old self.new }
     {
         match self.started.push(rule) {
             Ok(()) => {}

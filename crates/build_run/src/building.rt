@@ -1,5 +1,6 @@
 //! A build from its first look to its answer.
-ghost use Rattle.std.specs.Prelude.{◌≡◌, [], true, false, IfOk, IfSome, IfNone, OnOk, OnErr};
+ghost use Rattle.std.specs.Prelude.{◌≡◌, ◌++◌, ◌∷◌, [], List, true, false, IfOk, IfSome, IfNone, OnOk, OnErr};
+ghost use Rattle.scons_base.specs.declared.ids.RuleId.{RuleId};
 ghost use Rattle.world_api.specs.Causes.{Later};
 ghost use Rattle.world_api.specs.Meaning.{Told};
 ghost use Rattle.world_api.specs.Looks.{Looks};
@@ -13,17 +14,20 @@ ghost use Rattle.build_run.specs.Goings.{Goes, Passes, Stays};
 ghost use Rattle.build_run.specs.Ledgers.{ledger_of, AllAccounts, Reports};
 ghost use Rattle.build_run.specs.Output.{BuildPrints, MakesPrinted};
 ghost use Rattle.build_run.specs.Outsets.{wanted_of, FinishesWell, LeavesCopies, MakesAll, RunsOver, SetsOut, SetsOutBehind, StaysKept, SucceedsOver};
+ghost use Rattle.build_run.specs.Noted.{KeepsNoted};
 ghost use Rattle.build_run.specs.Reasons.{EndsForReason, KeepsReason, SiteKeepsReason, StaysReasoned};
 ghost use Rattle.build_run.specs.Safe.{BuildsSafely, GoesSafely, MakesSafely};
 ghost use Rattle.build_run.specs.Sites.{IsSame, SiteAccounts, most_jobs};
+ghost use Rattle.build_run.specs.Skips.{AreAtFault, AreHeldPairs, AreNamed, BuildSkips, HasHeldPairs, HoldsNeedy, MakesSkipping, TakesFaulty};
 ghost use Rattle.build_run.specs.Takes.{HasTakeCause};
 
 use crate::account::Account;
 use crate::end::BuildEnd;
 use crate::leftovers::take_leftovers;
+use crate::names::first_target;
 use crate::site::{Run, Site};
 use crate::tickets::Tickets;
-use build_files::{Inputs, ListEnd, first_target};
+use build_files::{Inputs, ListEnd};
 use build_means::runs_are_right;
 use indexmap::IndexSet;
 use rule_graph::{BuildFault, Graph};
@@ -80,8 +84,9 @@ pub fn build<W: World, O: Sink, E: Sink>(
     ensures later { Later (W.meaning.counts world.old) (W.meaning.counts world.new) }
     ensures idle { W.meaning.tells world.new → (W.meaning.around world.new).running ≡ [] }
     ensures causes { BuildCauses W.meaning O.meaning E.meaning world.old out.old err.old world.new out.new err.new result }
-    ensures runs { RunsOver W.meaning (wanted_of graph.old requested.now options.now) store.old world.old store.new world.new result }
-    ensures succeeds { SucceedsOver W.meaning (wanted_of graph.old requested.now options.now) store.old world.old store.new world.new result }
+    ensures runs { RunsOver W.meaning graph.old requested.now options.now store.old world.old store.new world.new result }
+    ensures succeeds { SucceedsOver W.meaning graph.old requested.now options.now store.old world.old store.new world.new result }
+    ensures skips { BuildSkips W.meaning graph.old requested.now options.now store.old world.old store.new world.new result }
     ensures safe { BuildsSafely W.meaning (wanted_of graph.old requested.now options.now) world.old world.new }
     ensures ends { EndsForReason options.now result }
     ensures tells { BuildTells E.meaning err.old err.new result }
@@ -189,6 +194,7 @@ fn make_all<W: World, O: Sink, E: Sink>(
     ensures accounts { AllAccounts W.meaning O.meaning E.meaning world.old out.old err.old account.old world.new out.new err.new account.new }
     ensures stored { StaysKept W.meaning world.new store.new account.new }
     ensures makes { MakesAll W.meaning graph.old run.old store.old world.old account.old options world.new account.new store.new }
+    ensures skips { MakesSkipping W.meaning graph.old run.old store.old world.old account.old options world.new account.new store.new result }
     ensures safe { MakesSafely W.meaning graph.old run.old store.old world.old account.old options world.new }
     ensures reason { KeepsReason options.keep account.old account.new }
     ensures texts { KeepsTold E.meaning err.old account.old err.new account.new }
@@ -222,9 +228,20 @@ impl<W: World, O: Sink, E: Sink> Site<'_, '_, W, O, E> {
         ensures finishes { FinishesWell self.old.graph.now self.old.run.now.plan self.old.account.now self.new.account.now }
         ensures reason { SiteKeepsReason self.old self.new }
         ensures texts { SiteKeepsTold E.meaning self.old self.new }
+        ensures skips { HasHeldPairs self.old.graph.now self.old.run.now.plan self.new.account.now result }
+        ensures holds { HoldsNeedy self.old.graph.now self.old.run.now.plan }
+        ensures noted { KeepsNoted self.old.account.now self.new.account.now }
     {
-        tell_cycle(self.graph, &self.run.plan, self.account, self.err);
-        match skipped(self.graph, &self.run.plan, self.account) {
+        self.run.plan.holds(self.graph);
+        let mut cycle = Vec::new(self.account.alloc);
+        tell_cycle(
+            self.graph,
+            &self.run.plan,
+            self.account,
+            self.err,
+            &mut cycle,
+        );
+        match skipped(self.graph, &self.run.plan, self.account, cycle.as_slice()) {
             Ok(skipped) => skipped,
             Err(_) => {
                 self.account.want_memory();
@@ -234,40 +251,49 @@ impl<W: World, O: Sink, E: Sink> Site<'_, '_, W, O, E> {
     }
 }
 
-/// Reports rules that wait for themselves, unless nothing was to start any more.
-fn tell_cycle<E: Sink>(graph: &Graph, plan: &Plan, account: &mut Account, err: &mut E)
+/// Reports rules that wait for themselves, unless nothing was to start any more, and adds them to a list.
+fn tell_cycle<E: Sink>(
+    graph: &Graph,
+    plan: &Plan,
+    account: &mut Account,
+    err: &mut E,
+    cycle: &mut Vec<RuleId>,
+)
     ensures reports { Reports E.meaning err.old account.old (ledger_of account.old) err.new account.new }
     ensures ends { KeepsEnds account.old account.new }
     ensures finishes { FinishesWell graph.now plan.now account.old account.new }
     ensures reason { StaysReasoned account.old account.new }
     ensures texts { KeepsTold E.meaning err.old account.old err.new account.new }
+    ensures cycle { AreAtFault plan.now cycle.old.items → AreAtFault plan.now cycle.new.items }
+    ensures noted { KeepsNoted account.old account.new }
 {
     plan.finishes(graph);
     if account.is_ended {
         return;
     }
-    match find_cycle(account.alloc, graph, plan, &mut account.faulty) {
+    match find_cycle(account.alloc, graph, plan, cycle) {
         Ok(Some(fault)) => account.report(err, fault),
         Ok(None) => {}
         Err(end) => account.end(err, end),
     }
 }
 
-/// The fault of rules that wait for themselves, where some do. They are noted as rules at fault.
+/// The fault of rules that wait for themselves, where some do. They are added to a list.
 fn find_cycle(
     alloc: Global,
     graph: &Graph,
     plan: &Plan,
-    faulty: &mut Vec<RuleId>,
+    cycle: &mut Vec<RuleId>,
 ) -> Result<Option<BuildFault>, ListEnd>
     ensures inner { IfOk result (λ found. IfSome found IsInner) }
     ensures quiet { IsQuiet result }
     ensures none { IfOk result (λ found. IfNone found (HasNoCycle plan.now.states plan.now.rules plan.now.origins)) }
+    ensures cycle { AreAtFault plan.now cycle.old.items → AreAtFault plan.now cycle.new.items }
 {
     let Some(rules) = plan.cycle()? else {
         return Ok(None);
     };
-    faulty.extend_from_slice(rules.as_slice())?;
+    cycle.extend_from_slice(rules.as_slice())?;
     Ok(Some(cycle_of(alloc, graph, rules.as_slice())?))
 }
 
@@ -282,25 +308,70 @@ fn cycle_of(alloc: Global, graph: &Graph, rules: &[RuleId]) -> Result<BuildFault
     }
 }
 
-/// The rules that were held back by those at fault, each with the one that did.
+/// The rules that were held back by those at fault, among them those of a cycle, each with the one that did.
 fn skipped(
     graph: &Graph,
     plan: &Plan,
     account: &Account,
-) -> Result<Listing<(PathText, PathText)>, Memory> {
+    cycle: &[RuleId],
+) -> Result<Listing<(PathText, PathText)>, Memory>
+    requires { AreAtFault plan.now cycle.now }
+    ensures { IfOk result (AreHeldPairs graph.now plan.now account.now.faulty.items) }
+{
+    let faulty = faulty_of(account.alloc, plan, account.faulty.as_slice(), cycle)?;
+    let held = plan.held_by(faulty.as_slice())?;
     let mut pairs = Vec::new(account.alloc);
-    for (held, by) in plan.held_by(account.faulty.as_slice())?.as_slice() {
-        let held = first_target(graph, *held)?;
-        let by = first_target(graph, *by)?;
-        pairs.push((held, by))?;
+    for pair in held.as_slice() {
+        pairs.push(named(graph, *pair)?)?;
     }
     Ok(Listing::new(pairs))
+}
+
+/// Those of these rules that are at fault by the plan, in their order, and then those of a cycle.
+fn faulty_of(
+    alloc: Global,
+    plan: &Plan,
+    noted: &[RuleId],
+    cycle: &[RuleId],
+) -> Result<Vec<RuleId>, Memory>
+    requires { AreAtFault plan.now cycle.now }
+    ensures at_fault { IfOk result (λ faulty. AreAtFault plan.now faulty.items) }
+    ensures takes { IfOk result (λ faulty. TakesFaulty plan.now noted.now faulty.items) }
+{
+    let mut faulty = Vec::new(alloc);
+    for rule in noted {
+        add_faulty(plan, *rule, &mut faulty)?;
+    }
+    faulty.extend_from_slice(cycle)?;
+    Ok(faulty)
+}
+
+/// Adds a rule that is at fault by the plan.
+fn add_faulty(plan: &Plan, rule: RuleId, faulty: &mut Vec<RuleId>) -> Result<(), Memory>
+    ensures at_fault { OnOk result (AreAtFault plan.now faulty.old.items → AreAtFault plan.now faulty.new.items) }
+    ensures takes { OnOk result ((noted : List RuleId) → TakesFaulty plan.now noted faulty.old.items
+        → TakesFaulty plan.now (noted ++ rule ∷ []) faulty.new.items) }
+{
+    if !plan.is_faulty(rule) {
+        return Ok(());
+    }
+    faulty.push(rule)?;
+    Ok(())
+}
+
+/// The first targets of two rules.
+fn named(graph: &Graph, pair: (RuleId, RuleId)) -> Result<(PathText, PathText), Memory>
+    ensures { IfOk result (AreNamed graph.now pair) }
+{
+    let (rule, other) = pair;
+    Ok((first_target(graph, rule)?, first_target(graph, other)?))
 }
 
 fn answer(account: Account, skipped: Listing<(PathText, PathText)>) -> BuildEnd
     ensures faults { result.faults ≡ account.faults.items }
     ensures memory { result.memory ≡ account.memory }
     ensures ended { result.is_ended ≡ account.is_ended }
+    ensures skipped { result.skipped ≡ skipped }
     ensures faulted { result.faults ≡ [] → result.memory ≡ false → is_faulted account ≡ false }
 {
     BuildEnd {

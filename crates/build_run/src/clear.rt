@@ -6,6 +6,7 @@ ghost use Rattle.build_run.specs.FaultTexts.{SameTold};
 ghost use Rattle.build_run.specs.Goings.{ClearsAt, Stays, Leaves, AreGone, AreUnused};
 ghost use Rattle.build_files.specs.Causes.{HasLookCause};
 ghost use Rattle.build_run.specs.Outs.{IsTicketFor, KeepsSome};
+ghost use Rattle.build_run.specs.Noted.{SiteKeepsNoted};
 ghost use Rattle.build_run.specs.Reasons.{EndsLast, SiteKeepsReason};
 ghost use Rattle.build_run.specs.Safe.{GoesSafely, SiteGoesSafely};
 ghost use Rattle.build_run.specs.Sites.{IsSound, IsReady, IsCleared, KeepsRecordsBut, SiteEnds, SiteGoes};
@@ -45,6 +46,7 @@ impl<W: World, O: Sink, E: Sink> Site<'_, '_, W, O, E> {
         ensures reason { SiteKeepsReason self.old self.new }
         ensures texts { SameTold self.old.account.now self.new.account.now }
         ensures last { EndsLast result }
+        ensures noted { SiteKeepsNoted self.old self.new }
     {
         let targets = job.targets.as_slice();
         make_dirs(self.account.alloc, self.world, &mut self.run.dirs, targets)?;
@@ -75,6 +77,7 @@ impl<W: World, O: Sink, E: Sink> Site<'_, '_, W, O, E> {
         ensures reason { SiteKeepsReason self.old self.new }
         ensures texts { SameTold self.old.account.now self.new.account.now }
         ensures last { EndsLast result }
+        ensures noted { SiteKeepsNoted self.old self.new }
     {
         if !self.store.has_record(ticket) {
             return Ok(());

@@ -7,14 +7,16 @@ ghost use Rattle.build_run.specs.FaultTexts.{SiteKeepsTold};
 ghost use Rattle.build_run.specs.Goings.{Stays};
 ghost use Rattle.world_api.specs.Looks.{Looks};
 ghost use Rattle.build_run.specs.Output.{MakesPrinting, TurnsPrinting};
+ghost use Rattle.build_run.specs.Noted.{IsFaultOf, NotesDone, SiteKeepsNoted};
 ghost use Rattle.build_run.specs.Reasons.{EndsLast, SiteKeepsReason};
 ghost use Rattle.build_run.specs.Safe.{StartsSafely, TurnsSafelyAs};
 ghost use Rattle.build_run.specs.Shown.{ShowsMade};
 ghost use Rattle.build_run.specs.Sites.{IsSound, KeepsHeld, SiteEnds, SitePasses};
 
 use crate::explain::why_text;
+use crate::names::first_target;
 use crate::site::{Run, Site};
-use build_files::{ListEnd, Present, first_target, is_stale, path_of};
+use build_files::{ListEnd, Present, is_stale, path_of};
 use deciders::Rec;
 use explain_report::least_is_reason;
 use rule_graph::{BuildFault, Graph, What};
@@ -39,6 +41,9 @@ impl<W: World, O: Sink, E: Sink> Site<'_, '_, W, O, E> {
         ensures reason { SiteKeepsReason self.old self.new }
         ensures texts { SiteKeepsTold E.meaning self.old self.new }
         ensures last { EndsLast result }
+        ensures noted { SiteKeepsNoted self.old self.new }
+        ensures fails { NotesDone self.new.graph.now self.new.account.now result }
+        ensures plan { self.new.run.now.plan ≡ self.old.run.now.plan }
     {
         match present(self.run, self.world, self.graph, rule)? {
             Present::Record(now) => self.make(rule, now),
@@ -67,6 +72,9 @@ impl<W: World, O: Sink, E: Sink> Site<'_, '_, W, O, E> {
         ensures texts { SiteKeepsTold E.meaning self.old self.new }
         ensures last { EndsLast result }
         ensures shows { ShowsMade W.meaning O.meaning self.old self.new rule now result }
+        ensures noted { SiteKeepsNoted self.old self.new }
+        ensures fails { NotesDone self.new.graph.now self.new.account.now result }
+        ensures plan { self.new.run.now.plan ≡ self.old.run.now.plan }
     {
         least_is_reason();
         if !is_stale(self.world, self.graph, self.store, rule, &now)? {
@@ -113,6 +121,7 @@ fn present<W: World>(
 fn missing_fault(graph: &Graph, rule: RuleId, node: NodeId) -> Result<BuildFault, ListEnd>
     ensures inner { IfOk result IsInner }
     ensures quiet { IsQuiet result }
+    ensures of { IfOk result (IsFaultOf graph.now rule.0) }
 {
     Ok(BuildFault::Missing {
         node: path_of(graph, node)?.copy()?,

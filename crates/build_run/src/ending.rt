@@ -7,6 +7,7 @@ ghost use Rattle.build_run.specs.Holds.{holds_in, without};
 ghost use Rattle.build_run.specs.Ledgers.{ledger_of, with_outcome, Reports};
 ghost use Rattle.build_run.specs.Output.{IsQuiet};
 ghost use Rattle.build_run.specs.Outs.{LogsEnding};
+ghost use Rattle.build_run.specs.Noted.{IsNotedIn, KeepsNoted, NotesEvent, SiteKeepsNoted};
 ghost use Rattle.build_run.specs.Reasons.{KeepsReason, SiteKeepsReason};
 ghost use Rattle.build_run.specs.Safe.{GoesSafely, HoldsSafely, SiteGoesSafely};
 ghost use Rattle.build_run.specs.Sites.{IsSound, IsSoundWith, IsStoredFor, KeepsRecords, PutsRecord, SiteAccounts, SitePasses, SitePuts, TakesEnding, most_jobs};
@@ -17,10 +18,11 @@ ghost use Rattle.world_api.specs.Meaning.{BanksKept};
 
 use crate::account::Account;
 use crate::building::Options;
+use crate::names::first_target;
 use crate::site::{Run, Site};
 use crate::start::give_up;
 use crate::tickets::Busy;
-use build_files::{ListEnd, first_target};
+use build_files::ListEnd;
 use rule_graph::{BuildFault, Graph};
 use scons_base::RuleId;
 use sign_store::Ticketed;
@@ -43,6 +45,8 @@ impl<W: World, O: Sink, E: Sink> Site<'_, '_, W, O, E> {
         ensures safe { SiteGoesSafely W.meaning self.old self.new }
         ensures reason { SiteKeepsReason self.old self.new }
         ensures texts { SiteKeepsTold E.meaning self.old self.new }
+        ensures noted { SiteKeepsNoted self.old self.new }
+        ensures fails { NotesEvent self.new.graph.now self.new.account.now result }
     {
         self.put_if_few();
         self.take_ended()
@@ -63,6 +67,7 @@ impl<W: World, O: Sink, E: Sink> Site<'_, '_, W, O, E> {
         ensures safe { SiteGoesSafely W.meaning self.old self.new }
         ensures reason { SiteKeepsReason self.old self.new }
         ensures texts { SiteKeepsTold E.meaning self.old self.new }
+        ensures noted { SiteKeepsNoted self.old self.new }
     {
         if self.run.tickets.len() >= self.options.most_jobs() {
             return;
@@ -86,6 +91,8 @@ impl<W: World, O: Sink, E: Sink> Site<'_, '_, W, O, E> {
         ensures safe { SiteGoesSafely W.meaning self.old self.new }
         ensures reason { SiteKeepsReason self.old self.new }
         ensures texts { SiteKeepsTold E.meaning self.old self.new }
+        ensures noted { SiteKeepsNoted self.old self.new }
+        ensures fails { NotesEvent self.new.graph.now self.new.account.now result }
     {
         let ended = wait(self.world, self.run, &self.options);
         let Some(busy) = self.run.tickets.take(ended.id) else {
@@ -128,6 +135,7 @@ impl<W: World, O: Sink, E: Sink> Site<'_, '_, W, O, E> {
         ensures safe { HoldsSafely W.meaning busy self.old self.new }
         ensures reason { SiteKeepsReason self.old self.new }
         ensures texts { SiteKeepsTold E.meaning self.old self.new }
+        ensures noted { SiteKeepsNoted self.old self.new }
     {
         let Ticketed { hold, ticket } = busy;
         self.run.held.add(hold, ticket);
@@ -152,6 +160,7 @@ impl<W: World, O: Sink, E: Sink> Site<'_, '_, W, O, E> {
         ensures safe { SiteGoesSafely W.meaning self.old self.new }
         ensures reason { SiteKeepsReason self.old self.new }
         ensures texts { SiteKeepsTold E.meaning self.old self.new }
+        ensures noted { SiteKeepsNoted self.old self.new }
     {
         if self.account.is_store_shut {
             self.run.held.clear();
@@ -202,6 +211,8 @@ fn not_done<E: Sink>(
         × Reports E.meaning err.old account.old (with_outcome (ledger_of account.old) target outcome) err.new account.new }
     ensures reason { KeepsReason options.now.keep account.old account.new }
     ensures texts { KeepsTold E.meaning err.old account.old err.new account.new }
+    ensures noted { KeepsNoted account.old account.new }
+    ensures notes { IsNotedIn graph.now account.new rule.0 }
 {
     let Ok(target) = first_target(graph, rule) else {
         account.want_memory();

@@ -11,6 +11,7 @@ ghost use Rattle.build_run.specs.Ledgers.{ledger_of};
 ghost use Rattle.build_run.specs.Holds.{Busy, hold_for, holds_in, KeepsApart};
 ghost use Rattle.build_run.specs.Output.{PrintsLast};
 ghost use Rattle.build_run.specs.Outs.{IsTicketFor, KeepsSome, ShareNone};
+ghost use Rattle.build_run.specs.Noted.{KeepsNoted, SiteKeepsNoted};
 ghost use Rattle.build_run.specs.Reasons.{EndsLast, SiteKeepsReason, StaysReasoned};
 ghost use Rattle.build_run.specs.Safe.{GoesSafely, SiteGoesSafely};
 ghost use Rattle.build_run.specs.Sites.{IsReady, IsSound, IsSoundWith, KeepsRecordsBut, SiteEnds, SitePasses, holds_after};
@@ -20,8 +21,9 @@ ghost use Rattle.sign_store.specs.Stores.{KeepsTickets, map_of};
 ghost use Rattle.world_api.specs.Meaning.{BanksKept};
 
 use crate::account::Account;
+use crate::names::first_target;
 use crate::site::{Run, Site};
-use build_files::{ListEnd, first_target};
+use build_files::ListEnd;
 use rule_graph::{BuildFault, Graph};
 use scons_base::RuleId;
 use sign_store::{Store, Ticket};
@@ -54,6 +56,7 @@ impl<W: World, O: Sink, E: Sink> Site<'_, '_, W, O, E> {
         ensures last { EndsLast result }
         ensures prints { OnOk result (Prints O.meaning self.old.out.now self.new.out.now text.now) }
         ensures cuts { OnErr result (PrintsLast O.meaning self.old.out.now self.new.out.now text.now) }
+        ensures noted { SiteKeepsNoted self.old self.new }
     {
         self.clear(&job, ticket)?;
         show(self.account, self.out, text)?;
@@ -70,6 +73,7 @@ fn show<O: Sink>(account: &mut Account, out: &mut O, text: &str) -> Result<(), L
     ensures texts { SameTold account.old account.new }
     ensures prints { OnOk result (Prints O.meaning out.old out.new text.now) }
     ensures cuts { OnErr result (Cuts O.meaning out.old out.new text.now) }
+    ensures noted { KeepsNoted account.old account.new }
 {
     match print(out, text) {
         Ok(()) => Ok(()),

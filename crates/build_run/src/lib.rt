@@ -14,6 +14,7 @@ mod ending;
 mod explain;
 mod launch;
 mod leftovers;
+mod names;
 mod site;
 mod start;
 mod tickets;

@@ -5,6 +5,7 @@ ghost use Rattle.build_files.specs.Causes.{IsQuiet};
 ghost use Rattle.build_run.specs.Along.{StartsAlong};
 ghost use Rattle.build_run.specs.Output.{StartsPrinting};
 ghost use Rattle.build_run.specs.FaultTexts.{SiteKeepsTold};
+ghost use Rattle.build_run.specs.Noted.{SiteKeepsNoted};
 ghost use Rattle.build_run.specs.Reasons.{EndsLast, SiteKeepsReason};
 ghost use Rattle.build_run.specs.Safe.{StartsSafely};
 ghost use Rattle.build_run.specs.Sites.{IsSound, KeepsHeld, SiteEnds, SitePasses};
@@ -48,6 +49,8 @@ impl<W: World, O: Sink, E: Sink> Site<'_, '_, W, O, E> {
         ensures last { EndsLast result }
         ensures prints { OnOk result (PrintsStart O.meaning self.old self.new rule (string_bytes why)) }
         ensures printing { StartsPrinting W.meaning O.meaning self.old self.new rule now (string_bytes why) result }
+        ensures noted { SiteKeepsNoted self.old self.new }
+        ensures plan { self.new.run.now.plan ≡ self.old.run.now.plan }
     {
         if self.account.is_store_shut {
             return Err(ListEnd::Fault(BuildFault::StoreFault));

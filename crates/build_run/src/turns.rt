@@ -5,6 +5,7 @@ ghost use Rattle.build_run.specs.FaultTexts.{KeepsTold, SameTold, SiteKeepsTold}
 ghost use Rattle.build_run.specs.Outsets.{StaysKept};
 ghost use Rattle.build_run.specs.Ledgers.{ledger_of, with_done, Accounts, Keeps, Reports};
 ghost use Rattle.build_run.specs.Output.{IsQuiet, PrintsAlong, TurnsPrinting};
+ghost use Rattle.build_run.specs.Noted.{KeepsNoted, NotesDone, SiteKeepsNoted, SiteStaysNoting};
 ghost use Rattle.build_run.specs.Reasons.{EndsLast, SiteKeepsReason, StaysReasoned};
 ghost use Rattle.build_run.specs.Safe.{SiteGoesSafely, TurnsSafely, TurnsSafelyAs};
 ghost use Rattle.build_run.specs.Sites.{IsSound, SiteAccounts, SiteEnds, SitePasses, most_jobs, outside_of};
@@ -36,6 +37,7 @@ impl<W: World, O: Sink, E: Sink> Site<'_, '_, W, O, E> {
         ensures safe { TurnsSafely W.meaning self.old self.new }
         ensures reason { SiteKeepsReason self.old self.new }
         ensures texts { SiteKeepsTold E.meaning self.old self.new }
+        ensures noting { SiteStaysNoting self.old self.new }
     {
         self.take_turns();
         self.wait_for_all();
@@ -57,6 +59,7 @@ impl<W: World, O: Sink, E: Sink> Site<'_, '_, W, O, E> {
         ensures safe { TurnsSafely W.meaning self.old self.new }
         ensures reason { SiteKeepsReason self.old self.new }
         ensures texts { SiteKeepsTold E.meaning self.old self.new }
+        ensures noting { SiteStaysNoting self.old self.new }
     {
         for _turn in 0..u64::MAX {
             let wanted = want(self.run, &self.options);
@@ -83,6 +86,7 @@ impl<W: World, O: Sink, E: Sink> Site<'_, '_, W, O, E> {
         ensures safe { SiteGoesSafely W.meaning self.old self.new }
         ensures reason { SiteKeepsReason self.old self.new }
         ensures texts { SiteKeepsTold E.meaning self.old self.new }
+        ensures noting { SiteStaysNoting self.old self.new }
     {
         let running = self.run.tickets.len();
         for _turn in 0..running {
@@ -111,6 +115,7 @@ impl<W: World, O: Sink, E: Sink> Site<'_, '_, W, O, E> {
         ensures safe { SiteGoesSafely W.meaning self.old self.new }
         ensures reason { EndsLast done → SiteKeepsReason self.old self.new }
         ensures texts { SiteKeepsTold E.meaning self.old self.new }
+        ensures noting { NotesDone self.old.graph.now self.old.account.now done → SiteStaysNoting self.old self.new }
     {
         tell(self.graph, &mut self.run.plan, self.account, self.err, done);
         halt(self.graph, &mut self.run.plan, self.account);
@@ -130,6 +135,9 @@ impl<W: World, O: Sink, E: Sink> Site<'_, '_, W, O, E> {
         ensures reason { SiteKeepsReason self.old self.new }
         ensures texts { SiteKeepsTold E.meaning self.old self.new }
         ensures last { EndsLast result }
+        ensures noted { SiteKeepsNoted self.old self.new }
+        ensures fails { NotesDone self.new.graph.now self.new.account.now result }
+        ensures plan { self.new.run.now.plan ≡ self.old.run.now.plan }
     {
         match wanted {
             Want::Scan(rule, file) => self.scan(rule, file),
@@ -150,6 +158,9 @@ impl<W: World, O: Sink, E: Sink> Site<'_, '_, W, O, E> {
         ensures reason { SiteKeepsReason self.old self.new }
         ensures texts { SiteKeepsTold E.meaning self.old self.new }
         ensures last { EndsLast result }
+        ensures noted { SiteKeepsNoted self.old self.new }
+        ensures fails { NotesDone self.new.graph.now self.new.account.now result }
+        ensures plan { self.new.run.now.plan ≡ self.old.run.now.plan }
     {
         let found = self.run.inputs.scanned(self.world, self.graph, rule, file)?;
         self.graph.laws();
@@ -205,6 +216,7 @@ fn tell<E: Sink>(
     ensures stays { plan.old.halted ≡ true → plan.new.halted ≡ true }
     ensures reason { EndsLast done → StaysReasoned account.old account.new }
     ensures texts { KeepsTold E.meaning err.old account.old err.new account.new }
+    ensures noted { KeepsNoted account.old account.new }
 {
     match done {
         Ok(event) => step(graph, plan, account, event),
@@ -218,6 +230,7 @@ fn step(graph: &Graph, plan: &mut Plan, account: &mut Account, event: PlanEvent)
     ensures stays { plan.old.halted ≡ true → plan.new.halted ≡ true }
     ensures reason { StaysReasoned account.old account.new }
     ensures texts { SameTold account.old account.new }
+    ensures noted { KeepsNoted account.old account.new }
 {
     match plan.step(graph, event) {
         Ok(()) => {}

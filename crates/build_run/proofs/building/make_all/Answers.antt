@@ -5,6 +5,7 @@ use Rattle.build_run.proofs.BuildPrinting.{goes_printed, makes_given}
 use Rattle.build_run.proofs.Finishing.{first_along, has_made, made_given}
 use Rattle.build_run.proofs.Lending.{accounts_given, idle_given, kept_closed, passes_given, stored_given}
 use Rattle.build_run.proofs.Sites.{sound_first}
+use Rattle.build_run.proofs.Skipping.{has_skipped, none_noted, skipped_given}
 use Rattle.build_run.proofs.Stopped.{along_first}
 use Rattle.build_run.proofs.Turning.{first_safe, safe_given}
 use Rattle.build_run.proofs.Reporting.{told_given}
@@ -49,6 +50,23 @@ returns-clause-makes g c = λ tells sure o ready.
     (λ t s. has_made m o ready.outset mid c.close.new.self.account.now (c.go_on.ensures.on t s o ready.outset along) (c.go_on.ensures.idle t)
     (c.go_on.ensures.still t s o ready.outset along) c.close.ensures.ends c.close.ensures.finishes c.finished_succeed.ensures
     c.go_on.ensures.put c.close.ensures.shut (map_of c.close.new.self.store.now) (ap map_of c.close.ensures.store))
+    tells sure
+
+pub returns-clause-skips : goal.returns-clause-skips
+returns-clause-skips g c = λ tells sure o ready.
+    let m = g.W.Disk.meaning in
+    let mid = c.go_on.new.self in
+    let same = c.close.ensures.same in
+    let passes = c.go_on.ensures.passes.same in
+    let lent_world = same.world ∙ passes.world in
+    let lent_account = same.account ∙ passes.account in
+    let lent_store = same.store ∙ passes.store in
+    let along = first_along m o _ ready c.requires.held c.requires.none in
+    skipped_given m c.close.new.self c.close.result o mid.world.now _ _ c.store-1.given.0 (search rules) (search rules) (search rules) c.close.ensures.world
+    (λ t s. has_skipped m o ready.outset mid c.close.new.self.account.now (c.go_on.ensures.on t s o ready.outset along) (c.go_on.ensures.idle t)
+    (c.go_on.ensures.still t s o ready.outset along) c.close.ensures.ends c.close.ensures.finishes c.finished_succeed.ensures
+    c.go_on.ensures.put c.close.ensures.shut (map_of c.close.new.self.store.now) (ap map_of c.close.ensures.store) c.close.result c.close.ensures.skips c.close.ensures.holds c.close.ensures.noted
+    (c.go_on.ensures.noting (none_noted c.args.run.now.plan c.args.graph.now c.args.account.now ready.sets.set.loaded.states)))
     tells sure
 
 pub returns-clause-safe : goal.returns-clause-safe

@@ -1,8 +1,19 @@
+use Rattle.std.proofs.Common.{refl}
+use Rattle.build_run.proofs.Noting.{noted_over}
 use Rattle.std.proofs.Common.{[], ℤ, SFits, w32, to_z-of_z, rules, subst}
 use Rattle.rule_graph.specs.declared.build_fault.BuildFault.TheVariants as fault
 use Rattle.build_run.specs.Ledgers.{Reports, ledger_of, with_fault}
 use Rattle.build_run.proofs.Causing.{wants_untold}
 use Rattle.build_run.proofs.ending.not_done.Goals as goal
+
+pub returns-in_default-clause-notes : goal.returns-in_default-clause-notes
+returns-in_default-clause-notes g c = noted_over c.want_memory.new.self c.want_memory.ensures.ends.ended c.args.graph.now c.args.rule.0
+
+pub returns-in-Failed-clause-notes : goal.returns-in-Failed-clause-notes
+returns-in-Failed-clause-notes g c = c.fail.ensures.notes c.args.graph.now c.in-Ok.target c.in-Ok.ensures refl
+
+pub returns-in-Broken-clause-notes : goal.returns-in-Broken-clause-notes
+returns-in-Broken-clause-notes g c = noted_over c.end.new.self c.end.ensures.ends.ended c.args.graph.now c.args.rule.0
 
 pub returns-in_default-clause-reports : goal.returns-in_default-clause-reports
 returns-in_default-clause-reports g c = ([], wants_untold g.E.Sink.meaning c.args.err.now c.args.account.now [] c.args.outcome c.want_memory.new.self c.want_memory.ensures.ledger)

@@ -1,6 +1,14 @@
+use Rattle.build_run.proofs.Noting.{noted_or}
 use Rattle.build_run.proofs.Reasons.{ended_before}
 use Rattle.build_run.proofs.Reporting.{same_told}
 use Rattle.build_run.proofs.account.Account.fail.Goals as goal
+
+pub returns-clause-noted : goal.returns-clause-noted
+returns-clause-noted g c = λ graph rule n. noted_or graph _ _ _ _ rule (c.note_faulty.ensures.noted graph rule (c.report.ensures.noted graph rule n))
+
+pub returns-clause-notes : goal.returns-clause-notes
+returns-clause-notes g c = λ graph path named of.
+    noted_or graph _ _ _ _ c.args.rule.0 (c.note_faulty.ensures.notes c.args.fault c.report.ensures.kept graph path named of)
 
 pub returns-clause-reason : goal.returns-clause-reason
 returns-clause-reason g c = λ reason keep is.

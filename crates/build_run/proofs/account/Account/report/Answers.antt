@@ -5,6 +5,6 @@ use Rattle.build_run.proofs.account.Account.report.Goals as goal
 pub returns-clause-texts : goal.returns-clause-texts
 returns-clause-texts g c = λ start has.
     let e = g.E.Sink.meaning in
-    reported e start c.args.err.now c.show.new.err c.args.self.now c.keep.new.self c.show.new.self c.args.fault c.keep.ensures.kept has
+    reported e start c.args.err.now c.show.new.err c.args.self.now c.keep.new.self c.show.new.self c.args.fault c.keep.ensures.adds has
     (shows_this e (λ s. string_bytes s) c.args.err.now c.show.new.err c.keep.new.self c.show.new.self c.fault_text-text.result _
     c.fault_text-text.ensures c.show.ensures.shows)

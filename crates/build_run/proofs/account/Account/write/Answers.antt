@@ -15,5 +15,5 @@ returns-in-Ok-clause-shows g c = λ free. is_printed free c.in-Ok.ensures.ok ref
 
 pub returns-in-Err-clause-shows : goal.returns-in-Err-clause-shows
 returns-in-Err-clause-shows g c = λ free.
-    let kept = c.keep.ensures.kept in
+    let kept = c.keep.ensures.adds in
     is_refused free c.in-Err.ensures.err kept.shut kept.memory kept.faults

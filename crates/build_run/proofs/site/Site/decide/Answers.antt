@@ -14,6 +14,10 @@ use Rattle.build_run.proofs.Choosing.{goes_before}
 use Rattle.build_run.proofs.Printing.{quiet_looked, quiet_prints, quiet_turn}
 use Rattle.build_run.proofs.site.Site.decide.Goals as goal
 
+pub returns-in_ok-missing-in-Lacks-clause-fails : goal.returns-in_ok-missing-in-Lacks-clause-fails
+returns-in_ok-missing-in-Lacks-clause-fails g c =
+    let f = c.in_ok-missing-in-Lacks.ensures.of in c.fail.ensures.notes c.args.self.now.graph.now f.path f.named f.of
+
 pub returns-in_err-now-clause-ends : goal.returns-in_err-now-clause-ends
 returns-in_err-now-clause-ends g c = λ start a.
     let before = ledger_of c.args.self.now.account.now in

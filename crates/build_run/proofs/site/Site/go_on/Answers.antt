@@ -1,3 +1,4 @@
+use Rattle.build_run.proofs.Noting.{noting_on}
 use Rattle.build_run.proofs.Turning.{turn_then}
 use Rattle.world_api.proofs.Moments.{tells_on}
 use Rattle.std.proofs.Common.{◌∙◌, ap}
@@ -6,6 +7,11 @@ use Rattle.build_run.proofs.Alongs.{goes_to_rest, still_at_rest}
 use Rattle.build_run.proofs.Printing.{prints_on, quiet_on, quiet_prints, quiet_put}
 use Rattle.build_run.proofs.Sites.{site_on, site_puts}
 use Rattle.build_run.proofs.site.Site.go_on.Goals as goal
+
+pub returns-clause-noting : goal.returns-clause-noting
+returns-clause-noting g c = λ n.
+    noting_on c.wait_for_all.new.self c.put_held.new.self c.put_held.ensures.known.plan c.put_held.ensures.noted
+    (c.wait_for_all.ensures.noting (c.take_turns.ensures.noting n))
 
 pub put_held-requires : goal.put_held-requires
 put_held-requires g c = c.wait_for_all.ensures.sound.stored

@@ -1,3 +1,4 @@
+use Rattle.build_run.proofs.Noting.{names_grow, noted_grown}
 use Rattle.build_run.proofs.Turning.{site_saw}
 use Rattle.std.proofs.Common.{refl, subst, sym}
 use Rattle.world_api.specs.Counts.{Counts}
@@ -9,6 +10,14 @@ use Rattle.build_run.proofs.Sites.{looked_at, sound_still}
 use Rattle.build_run.proofs.Starting.{end_of_turn}
 use Rattle.build_run.proofs.Printing.{quiet_looked}
 use Rattle.build_run.proofs.site.Site.scan.Goals as goal
+
+pub returns-in_err-found-clause-noted : goal.returns-in_err-found-clause-noted
+returns-in_err-found-clause-noted g c = λ rule n.
+    noted_grown c.args.self.now.graph.now c.scanned.new.graph _ _ _ rule (names_grow c.args.self.now.graph.now c.scanned.new.graph c.scanned.ensures.grows rule) n
+
+pub returns-clause-noted : goal.returns-clause-noted
+returns-clause-noted g c = λ rule n.
+    noted_grown c.args.self.now.graph.now c.scanned.new.graph _ _ _ rule (names_grow c.args.self.now.graph.now c.scanned.new.graph c.scanned.ensures.grows rule) n
 
 pub returns-in_err-found-clause-along : goal.returns-in_err-found-clause-along
 returns-in_err-found-clause-along g c = λ tells sure o outset along next.

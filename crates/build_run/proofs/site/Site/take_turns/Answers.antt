@@ -1,3 +1,4 @@
+use Rattle.build_run.proofs.Noting.{noting_on}
 use Rattle.std.proofs.Common.{refl, rules}
 use Rattle.build_run.proofs.Stopping.{site_rests}
 use Rattle.build_run.proofs.Turning.{turn_then, turns_on}
@@ -32,6 +33,7 @@ loop-turn-preserved g c =
           tell.ends);
       texts = λ start has. tell.texts start (turn.texts start (before.texts start has));
       reason = λ r. tell.reason turn.last (turn.reason (before.reason r));
+      noting = λ n. tell.noting turn.fails (noting_on c.loop-turn.self c.take_turn-done.new.self turn.plan turn.noted (before.noting n));
     }
 
 pub returns-then-eq-clause-still : goal.returns-then-eq-clause-still
@@ -57,7 +59,11 @@ loop-turn-init g c = record {
       site_rests g.W.Disk.meaning g.met.W.Disk.only_now c.args.self.now c.args.self.now refl refl refl refl (λ unshut. unshut) s safe;
   reason = λ r. r;
   texts = λ start has. has;
+  noting = λ n. n;
 }
+
+pub returns-clause-noting : goal.returns-clause-noting
+returns-clause-noting g c = λ n. c.tell-2.ensures.noting tt (c.loop-turn.invariant.noting n)
 
 pub returns-clause-safe : goal.returns-clause-safe
 returns-clause-safe g c =

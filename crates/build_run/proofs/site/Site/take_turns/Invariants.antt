@@ -1,6 +1,7 @@
 use Rattle.build_run.specs.Along.{StaysAlong}
 use Rattle.build_run.specs.FaultTexts.{SiteKeepsTold}
 use Rattle.build_run.specs.Output.{PrintsAlong}
+use Rattle.build_run.specs.Noted.{SiteStaysNoting}
 use Rattle.build_run.specs.Reasons.{SiteKeepsReason}
 use Rattle.build_run.specs.Safe.{TurnsSafely}
 use Rattle.build_run.specs.Sites.{IsSound, SiteAccounts, SitePasses}
@@ -18,4 +19,5 @@ invariant-loop-turn g l =
       safe : TurnsSafely m l.fn.self l.self;
       reason : SiteKeepsReason l.fn.self l.self;
       texts : SiteKeepsTold g.E.Sink.meaning l.fn.self l.self;
+      noting : SiteStaysNoting l.fn.self l.self;
     }

@@ -1,3 +1,4 @@
+use Rattle.build_run.proofs.Noting.{told_noted}
 use Rattle.std.proofs.Common.{◌∙◌, refl, sym}
 use Rattle.build_run.specs.Books.{book_of}
 use Rattle.build_run.proofs.Stopping.{site_rests}
@@ -5,6 +6,11 @@ use Rattle.build_run.proofs.Alongs.{told_to}
 use Rattle.build_run.proofs.Booking.{shut_on}
 use Rattle.build_run.proofs.Printing.{quiet_around, tells_end, tells_ended}
 use Rattle.build_run.proofs.site.Site.tell.Goals as goal
+
+pub returns-clause-noting : goal.returns-clause-noting
+returns-clause-noting g c = λ n notes.
+    told_noted c.args.self.now.run.now.plan c.args.self.now.graph.now c.args.self.now.account.now notes c.args.done c.tell.new.plan c.halt.new.plan
+    c.tell.new.account c.tell.ensures.tells c.tell.ensures.noted n c.halt.ensures.goes
 
 pub returns-clause-along : goal.returns-clause-along
 returns-clause-along g c = λ o outset asked leads.

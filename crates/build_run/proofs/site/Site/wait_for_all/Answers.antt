@@ -1,3 +1,4 @@
+use Rattle.build_run.proofs.Noting.{noting_on}
 use Rattle.std.proofs.Common.{◌∙◌, List, ap, arith, length, refl, rules}
 use Rattle.std.specs.Prelude.{Ok}
 use Rattle.task_plan.specs.Plans.{Planned}
@@ -31,6 +32,7 @@ loop-turn-preserved g c =
       quiet = quiet_on m _ _ _ tell.passes.passes.told (quiet_on m _ _ _ ending.passes.passes.told before.quiet ending.quiet) tell.quiet;
       texts = λ start has. tell.texts start (ending.texts start (before.texts start has));
       reason = λ r. tell.reason tt (ending.reason (before.reason r));
+      noting = λ n. tell.noting ending.fails (noting_on c.loop-turn.self c.take_ending-event.new.self ending.halted ending.noted (before.noting n));
       same = λ e. absurd (omega (arith, e));
       halted = λ e. tell.halted (ap (λ (p : Planned). p.halted) ending.halted ∙ before.halted e);
       along = λ e. along_on m _ _ _ told.passes.told (before.along e)
@@ -48,6 +50,7 @@ loop-turn-init g c = record {
   quiet = quiet_around g.W.Disk.meaning c.args.self.now c.args.self.now refl refl (λ e. e) (λ t. refl);
   reason = λ r. r;
   texts = λ start has. has;
+  noting = λ n. n;
   same = search rules;
   halted = search rules;
   along = search rules;

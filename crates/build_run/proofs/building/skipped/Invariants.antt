@@ -1,0 +1,5 @@
+use Rattle.build_run.specs.Skips.{AreNamedTo}
+use Rattle.build_run.proofs.building.skipped.Given as goal
+
+abbrev pub invariant-loop-pair : goal.invariant-loop-pair
+invariant-loop-pair l = AreNamedTo l.graph l.held l.pair-index l.pairs.items
