@@ -104,6 +104,8 @@ returns-in-Ok-clause-skips g c =
     c.make_all-skipped.new.world c.args.store.now c.set_out.new.store c.requires.idle c.set_out.new.graph c.in-Ok.run' c.new-account.result
     c.set_out.ensures.goes.passes.told.told c.in-Ok.ensures.cause
     c.in-Ok.ensures.sets (is_blank c.new-account.result c.new-account.ensures.ledger c.new-account.ensures.ended)
+    (g.met.W.Disk.reads_as c.set_out.new.world) c.in-Ok.ensures.kept c.make_all-skipped.ensures.passes.told.sure c.set_out.ensures.safe
+    c.runs_are_right.ensures
     c.make_all-skipped.new.account c.make_all-skipped.ensures.passes.told.told
     c.make_all-skipped.new.store c.make_all-skipped.result c.make_all-skipped.ensures.skips made.shut c.make_all-skipped.ensures.stored c.answer.result
     c.answer.ensures.ended c.answer.ensures.faults c.answer.ensures.skipped
