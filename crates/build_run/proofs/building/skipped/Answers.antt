@@ -1,7 +1,8 @@
 use Rattle.std.proofs.Common.{List, ap, arith, length, subst, sym}
 use Rattle.std.proofs.lemmas.List.{get_or_default}
 use Rattle.scons_base.specs.declared.ids.RuleId.{RuleId}
-use Rattle.build_run.specs.Skips.{AreAtFault, AreNamedTo, TakesFaulty}
+use Rattle.build_model.specs.Rules.{Path}
+use Rattle.build_run.specs.Skips.{AreAtFault, AreHeldPairs, AreNamedTo, TakesFaulty}
 use Rattle.build_run.proofs.Skipping.{held_named, none_named, one_named}
 use Rattle.build_run.proofs.building.skipped.Goals as goal
 
@@ -27,6 +28,7 @@ returns c =
     let at_fault = subst (λ (rules : List RuleId). AreAtFault plan rules) same found.at_fault in
     let taken = subst (λ (rules : List RuleId). TakesFaulty plan rules c.in_ok-faulty.faulty.items) c.as_slice.ensures.value found.takes in
     let takes = subst (λ (rules : List RuleId). TakesFaulty plan noted rules) same taken in
-    held_named c.args.graph.now held plan noted c.as_slice-2.result.now at_fault takes of.real of.all of.once c.loop-pair.pair-index c.loop-pair.pairs.items
+    subst (λ (pairs : List (Path × Path)). AreHeldPairs c.args.graph.now plan noted pairs) (sym c.new.ensures)
+    (held_named c.args.graph.now held plan noted c.as_slice-2.result.now at_fault takes of.real of.all of.once c.loop-pair.pair-index c.loop-pair.pairs.items
     (let long = ap (λ (l : List (RuleId × RuleId)). length l) read in omega (arith, long))
-    (subst (λ (l : List (RuleId × RuleId)). AreNamedTo c.args.graph.now l c.loop-pair.pair-index c.loop-pair.pairs.items) read c.loop-pair.invariant)
+    (subst (λ (l : List (RuleId × RuleId)). AreNamedTo c.args.graph.now l c.loop-pair.pair-index c.loop-pair.pairs.items) read c.loop-pair.invariant))
