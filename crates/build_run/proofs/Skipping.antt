@@ -1,5 +1,5 @@
 -- That what a build says that it skipped is so by its steps.
-use Rattle.std.proofs.Common.{◌≡◌, ◌≢◌, ◌<◌, ◌≤◌, ◌+◌, ◌∙◌, ◌⊎◌, inl, inr, ⊎_elim, ap, sym, subst, refl, ℕ, zero, suc, length, length-append, get_or, map, List, [], ◌∷◌, ◌++◌, Option, Some, None, Bool, true, false, ◌||◌, if◌then◌else◌, arith}
+use Rattle.std.proofs.Common.{◌≡◌, ◌≢◌, ◌<◌, ◌≤◌, ◌+◌, ◌∙◌, ◌⊎◌, inl, inr, ⊎_elim, ap, sym, subst, refl, ℕ, zero, suc, length, length-append, get_or, map, List, [], ◌∷◌, ◌++◌, Option, Some, None, Bool, true, false, ◌||◌, arith}
 use Rattle.std.specs.Prelude.{nat_eq, slice_get}
 use Rattle.std.specs.List.{count_by}
 use Rattle.std.specs.Option.{option_and_then, option_map, unwrap_or}
@@ -148,9 +148,11 @@ module _ (g : RuleGraph) (held : List (RuleId × RuleId)) where
           (pair : RuleId × RuleId) × (slice_get held n ≡ Some pair) × AreNamed g pair other
       by n other e (inl lt) = a.each n other (front n other e lt)
       by n other e (inr le) =
-          let k = last n other e le in
-          (pair, ap (slice_get held) k.0 ∙ slice_get-get_or held count pair lt ∙ ap (λ (p : RuleId × RuleId). Some p) (sym this),
-          subst (λ (x : Path × Path). AreNamed g pair x) (sym k.1) named)
+          let k = last n other e le in (
+            pair,
+            ap (slice_get held) k.0 ∙ slice_get-get_or held count pair lt ∙ ap (λ (p : RuleId × RuleId). Some p) (sym this),
+            subst (λ (x : Path × Path). AreNamed g pair x) (sym k.1) named,
+          )
 
   -- all were
   pub held_named : (plan : Planned) (noted faulty : List RuleId) → AreAtFault plan faulty → TakesFaulty plan noted faulty →
