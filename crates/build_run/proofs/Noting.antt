@@ -1,5 +1,5 @@
 -- That what was noted of rules at fault is so still.
-use Rattle.std.proofs.Common.{◌≡◌, ◌≢◌, ◌∙◌, ◌⊎◌, inl, inr, ⊎_elim, ap, sym, subst, refl, ℕ, zero, suc, List, [], ◌∷◌, ◌++◌, Option, Some, None, Bool, true, false, ◌||◌, Contains, set, arith}
+use Rattle.std.proofs.Common.{◌≡◌, ◌∙◌, ◌⊎◌, inl, inr, ⊎_elim, ap, sym, subst, refl, ℕ, zero, suc, List, [], ◌∷◌, ◌++◌, Option, Some, None, Bool, true, false, ◌||◌, set, arith}
 use Rattle.std.specs.Prelude.{nat_eq, slice_get, if◌then◌else◌, Result, Ok, Err}
 use Rattle.std.proofs.lemmas.Bool.Decides.{nat_tests}
 use Rattle.std.specs.Option.{option_and_then}
@@ -27,7 +27,6 @@ use Rattle.build_run.specs.Firsts.{first_target_of}
 use Rattle.build_files.specs.Searched.{GrowsTo}
 use Rattle.build_files.specs.declared.end.ListEnd.{ListEnd}
 use Rattle.build_run.specs.Along.{StepsOr, Tells}
-use Rattle.build_run.specs.Causes.{HasAny}
 use Rattle.build_run.specs.Noted.{IsOfRule, IsKept, IsNoted, IsKeptIn, IsNotedIn, KeepsNoted, NotesEvent, NotesDone, AreNotedBy, SiteKeepsNoted, SiteStaysNoting}
 use Rattle.build_run.specs.declared.account.Account.{Account}
 use Rattle.build_run.specs.declared.site.Site.{Site}

@@ -12,25 +12,26 @@ use Rattle.build_run.proofs.site.Site.close.Goals as goal
 pub skipped-requires : goal.skipped-requires
 skipped-requires g c =
     let plan = c.args.self.now.run.now.plan in
-    c.tell_cycle.ensures.cycle (subst (λ (rules : List RuleId). AreAtFault plan rules) (sym c.new-cycle.ensures.items) (none_at_fault plan))
+    subst (λ (rules : List RuleId). AreAtFault plan rules) (sym c.as_slice.ensures.value)
+    (c.tell_cycle.ensures.cycle (subst (λ (rules : List RuleId). AreAtFault plan rules) (sym c.new-cycle.ensures.items) (none_at_fault plan)))
 
 pub returns-in-Ok-clause-accounts : goal.returns-in-Ok-clause-accounts
 returns-in-Ok-clause-accounts g c = λ start a. c.tell_cycle.ensures.reports.accounts _ _ start a
 
-pub returns-in-Err-clause-accounts : goal.returns-in-Err-clause-accounts
-returns-in-Err-clause-accounts g c = λ start a.
+pub returns-clause-accounts : goal.returns-clause-accounts
+returns-clause-accounts g c = λ start a.
     let told = ledger_of c.tell_cycle.new.account in
     account_as start _ (wanting told) (ledger_of c.want_memory.new.self) c.want_memory.ensures.ledger (wanted start told _ (c.tell_cycle.ensures.reports.accounts _ _ start a))
 
-pub returns-in-Err-clause-texts : goal.returns-in-Err-clause-texts
-returns-in-Err-clause-texts g c = λ start has.
+pub returns-clause-texts : goal.returns-clause-texts
+returns-clause-texts g c = λ start has.
     same_told g.E.Sink.meaning _ c.tell_cycle.new.account c.want_memory.new.self c.want_memory.ensures.same start (c.tell_cycle.ensures.texts start has)
 
-pub returns-in-Err-clause-noted : goal.returns-in-Err-clause-noted
-returns-in-Err-clause-noted g c = λ graph rule n. noted_over c.want_memory.new.self c.want_memory.ensures.ends.ended graph rule
+pub returns-clause-noted : goal.returns-clause-noted
+returns-clause-noted g c = λ graph rule n. noted_over c.want_memory.new.self c.want_memory.ensures.ends.ended graph rule
 
 pub returns-in-Ok-clause-skips : goal.returns-in-Ok-clause-skips
 returns-in-Ok-clause-skips g c = λ going. c.in-Ok.ensures
 
-pub returns-in-Err-clause-skips : goal.returns-in-Err-clause-skips
-returns-in-Err-clause-skips g c = λ going. true_false (sym c.want_memory.ensures.ends.ended ∙ going)
+pub returns-clause-skips : goal.returns-clause-skips
+returns-clause-skips g c = λ going. true_false (sym c.want_memory.ensures.ends.ended ∙ going)

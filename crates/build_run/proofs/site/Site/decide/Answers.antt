@@ -177,3 +177,6 @@ returns-in-Record-clause-printing g c = record {
       (g.met.W.World.held site.world.now (p.looks.told.told before)) wanted.1)
       start (on.prints before (told.sure tells sure) (c.make.ensures.printing.told shows) o outset along start printed);
 }
+
+pub returns-in_ok-missing-in-Lacks-clause-noted : goal.returns-in_ok-missing-in-Lacks-clause-noted
+returns-in_ok-missing-in-Lacks-clause-noted g c = λ rule n. c.fail.ensures.noted c.args.self.now.graph.now rule n

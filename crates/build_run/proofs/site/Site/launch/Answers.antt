@@ -165,3 +165,9 @@ returns-in_err-show-clause-texts g c = λ start has.
 pub returns-clause-texts : goal.returns-clause-texts
 returns-clause-texts g c = λ start has.
     same_told g.E.Sink.meaning _ _ _ c.show.ensures.texts start (cleared_told g.E.Sink.meaning _ _ _ _ c.clear.ensures.goes.err c.clear.ensures.texts start has)
+
+pub returns-in_err-show-clause-noted : goal.returns-in_err-show-clause-noted
+returns-in_err-show-clause-noted g c = λ rule n. c.show.ensures.noted c.clear.new.self.graph.now rule (c.clear.ensures.noted rule n)
+
+pub returns-clause-noted : goal.returns-clause-noted
+returns-clause-noted g c = λ rule n. c.show.ensures.noted c.clear.new.self.graph.now rule (c.clear.ensures.noted rule n)

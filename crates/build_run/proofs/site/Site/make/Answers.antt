@@ -326,3 +326,6 @@ returns-clause-printing g c = record {
 pub returns-clause-texts : goal.returns-clause-texts
 returns-clause-texts g c = λ start has.
     same_told g.E.Sink.meaning _ c.start.new.self.account.now c.note_start.new.self c.note_start.ensures.same start (c.start.ensures.texts start has)
+
+pub returns-clause-noted : goal.returns-clause-noted
+returns-clause-noted g c = λ rule n. c.note_start.ensures.noted c.start.new.self.graph.now rule (c.start.ensures.noted rule n)

@@ -350,3 +350,6 @@ returns-in-Done-clause-quiet g c =
 pub returns-in_default-clause-texts : goal.returns-in_default-clause-texts
 returns-in_default-clause-texts g c = λ start has.
     same_told g.E.Sink.meaning _ c.args.self.now.account.now c.want_memory.new.self c.want_memory.ensures.same start has
+
+pub returns-in_default-outcome-clause-noted : goal.returns-in_default-outcome-clause-noted
+returns-in_default-outcome-clause-noted g c = λ rule n. c.not_done.ensures.noted c.args.self.now.graph.now rule n

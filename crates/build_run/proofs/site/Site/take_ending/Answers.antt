@@ -84,3 +84,6 @@ returns-clause-quiet g c =
 
 pub returns-clause-texts : goal.returns-clause-texts
 returns-clause-texts g c = λ start has. c.take_ended.ensures.texts start (c.put_if_few.ensures.texts start has)
+
+pub returns-clause-noted : goal.returns-clause-noted
+returns-clause-noted g c = λ rule n. c.take_ended.ensures.noted rule (c.put_if_few.ensures.noted rule n)
