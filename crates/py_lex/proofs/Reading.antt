@@ -1,6 +1,7 @@
 -- What is left of a script leads to the whole of it.
-use Rattle.std.proofs.Common.{List, ℕ}
-use Rattle.py_lex.specs.Steps.{State, Steps, goes, start}
+use Rattle.std.proofs.Common.{◌≡◌, List, ℕ, sym, subst}
+use Rattle.py_lex.specs.declared.reader.Mode.TheVariants.{Line}
+use Rattle.py_lex.specs.Steps.{State, Move, Steps, ModeMove, RestMove, goes, start}
 use Rattle.py_lex.specs.Sizes.{Fits}
 use Rattle.py_lex.specs.Utf8.{IsClean}
 use Rattle.py_lex.specs.Lexes.{Outcome, Reads, goes_on}
@@ -21,3 +22,7 @@ leads_on {t = t} u so step fits = record {
 
 pub start_is_clean : (script : List ℕ) → IsClean script → IsClean (start script).rest
 start_is_clean script clean = blanks_are_clean script clean
+
+-- a gap or a token of a line is the step at a state that reads a line
+pub step_in_line : (s : State) (m : Move) → s.mode ≡ Line → RestMove s.rest s m → Steps s m
+step_in_line s m line moves = subst (λ mode. ModeMove mode s m) (sym line) moves

@@ -9,7 +9,7 @@ ghost use Rattle.py_lex.specs.Written.{Written};
 
 use crate::bytes::NO_TEXT;
 use crate::fault::{LexFault, LexKind};
-use crate::reader::{self, Step, next_step};
+use crate::reader::{self, Step, Stop, is_in_line, next_step, step_in_line};
 use py_token::Tokens;
 use scons_base::limits::SCRIPT_LIMIT;
 use std::alloc::Global;
@@ -60,6 +60,12 @@ fn lex_script(alloc: Global, script: &[u8]) -> Result<Tokens, LexFault>
 {
     let mut reader = reader::start(alloc, script)?;
     'script: loop {
+        if is_in_line(&reader) {
+            if let Some(Stop { line, kind }) = step_in_line(alloc, &mut reader)? {
+                return Err(LexFault::At { line, kind });
+            }
+            continue;
+        }
         match next_step(alloc, reader)? {
             Step::Goes(next) => reader = next,
             Step::Ends(tokens) => return Ok(Tokens::new(tokens)),

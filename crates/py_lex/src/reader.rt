@@ -1,11 +1,11 @@
 //! A script that is read up to a place.
-ghost use Rattle.std.specs.Prelude.{◌≡◌, ◌<◌, ◌+◌, ◌-◌, ◌^◌, ◌++◌, ◌∷◌, [], length, OnOk, IfOk};
-ghost use Rattle.py_lex.specs.Steps.{Steps, TakesToken, token_at, dedents, added, with_text, text_behind, goes, start, line_end, begin_line, finish};
+ghost use Rattle.std.specs.Prelude.{◌≡◌, ◌<◌, ◌+◌, ◌-◌, ◌^◌, ◌++◌, ◌∷◌, [], length, MatchBool, MatchOption, IfNone, OnOk, IfOk};
+ghost use Rattle.py_lex.specs.Steps.{Steps, TakesToken, token_at, dedents, added, with_text, text_behind, goes, stops, start, line_end, begin_line, finish};
 ghost use Rattle.py_lex.specs.Steps.{RestMove, TakesPart, part_tokens, end_of_part, mode_behind, field_move, field_token_move};
 ghost use Rattle.py_lex.specs.Tokens.{field_read};
 ghost use Rattle.std.specs.Str.{IsUtf8};
 ghost use Rattle.py_lex.specs.Views.{state_of, step_of};
-ghost use Rattle.py_lex.specs.Sizes.{Fits, FitsStep};
+ghost use Rattle.py_lex.specs.Sizes.{Fits, FitsNext, FitsStep};
 ghost use Rattle.py_lex.specs.Utf8.{IsClean};
 
 use crate::bytes::{cut_blanks, is_blank};
@@ -59,6 +59,13 @@ pub struct Reader<'a> {
     pub tokens: Vec<Token>,
 }
 
+/// Where and why a line can't be read on.
+#[derive(Clone, Copy)]
+pub struct Stop {
+    pub line: u32,
+    pub kind: LexKind,
+}
+
 /// What the next step gives.
 #[derive(Drop)]
 pub enum Step<'a> {
@@ -83,44 +90,59 @@ pub fn start(alloc: Global, script: &[u8]) -> Result<Reader<'_>, Memory>
     })
 }
 
-/// Takes a gap, a token or a part of an f-text, or comes to the end.
+/// Takes a part of an f-text or a token of its fields, or comes to the end.
 pub fn next_step(alloc: Global, reader: Reader<'_>) -> Result<Step<'_>, Memory>
     requires fits { Fits (state_of reader) }
     requires clean { IsClean reader.rest.now }
+    requires rare { reader.mode ≡ Mode.Line → reader.rest.now ≡ [] }
     ensures steps { IfOk result (λ s. Steps (state_of reader.entry) (step_of s)) }
     ensures fits { IfOk result (λ s. FitsStep (state_of reader.entry) (step_of s)) }
 {
     match reader.mode {
-        Mode::Line => step_in_line(alloc, reader),
+        Mode::Line => finish(reader),
         Mode::Part(text) => take_part(alloc, text, reader),
         Mode::Field(text, inner) => step_in_field(alloc, text, inner, reader),
     }
 }
 
-/// Takes a gap or a token of a line, or comes to the end.
-fn step_in_line(alloc: Global, reader: Reader<'_>) -> Result<Step<'_>, Memory>
-    requires fits { Fits (state_of reader) }
-    requires clean { IsClean reader.rest.now }
-    requires line { reader.mode ≡ Mode.Line }
-    ensures steps { IfOk result (λ s. RestMove reader.entry.rest.now (state_of reader.entry) (step_of s)) }
-    ensures fits { IfOk result (λ s. FitsStep (state_of reader.entry) (step_of s)) }
+/// Whether a line is read, and something of it is left.
+pub fn is_in_line(reader: &Reader<'_>) -> bool
+    ensures { MatchBool result
+        ((reader.now.mode ≡ Mode.Line) × (0 < length reader.now.rest.now))
+        (reader.now.mode ≡ Mode.Line → reader.now.rest.now ≡ []) }
 {
-    if reader.rest.is_empty() {
-        return finish(reader);
+    match reader.mode {
+        Mode::Line => !reader.rest.is_empty(),
+        Mode::Part(_) | Mode::Field(_, _) => false,
     }
-    let mut reader = reader;
+}
+
+/// Takes a gap or a token of a line, or says where and why none can be taken. A script is mostly lines, so that they are
+/// read in place.
+pub fn step_in_line(alloc: Global, reader: &mut Reader<'_>) -> Result<Option<Stop>, Memory>
+    requires fits { Fits (state_of reader.old) }
+    requires clean { IsClean reader.old.rest.now }
+    requires some { 0 < length reader.old.rest.now }
+    ensures steps { IfOk result (λ s. MatchOption s
+        (RestMove reader.old.rest.now (state_of reader.old) (goes (state_of reader.new)))
+        (λ stop. RestMove reader.old.rest.now (state_of reader.old) (stops stop.line stop.kind))) }
+    ensures fits { IfOk result (λ s. IfNone s (FitsNext (state_of reader.old) (state_of reader.new))) }
+{
     let (gap, after) = next_gap(reader.rest);
     match gap {
         Gap::Blanks | Gap::Comment => {
             reader.rest = after;
-            Ok(Step::Goes(reader))
+            Ok(None)
         }
         Gap::Joined => {
             reader.rest = after;
             reader.line += 1;
-            Ok(Step::Goes(reader))
+            Ok(None)
         }
-        Gap::LineEnd => end_line(reader, after),
+        Gap::LineEnd => {
+            end_line(reader, after)?;
+            Ok(None)
+        }
         Gap::Nothing => match reader.place {
             Place::LineStart => begin_line(alloc, reader),
             Place::Inside(depth) => take_token(alloc, depth, reader),
@@ -129,20 +151,19 @@ fn step_in_line(alloc: Global, reader: Reader<'_>) -> Result<Step<'_>, Memory>
 }
 
 /// The line ends here, unless a bracket is open.
-fn end_line<'a>(reader: Reader<'a>, after: &'a [u8]) -> Result<Step<'a>, Memory>
-    requires fits { Fits (state_of reader) }
-    requires shorter { length after.now < length reader.rest.now }
-    ensures steps { IfOk result (λ s. step_of s ≡ goes (line_end reader.entry.place (state_of reader.entry) after.now)) }
-    ensures fits { IfOk result (λ s. FitsStep (state_of reader.entry) (step_of s)) }
+fn end_line<'a>(reader: &mut Reader<'a>, after: &'a [u8]) -> Result<(), Memory>
+    requires fits { Fits (state_of reader.old) }
+    requires shorter { length after.now < length reader.old.rest.now }
+    ensures steps { OnOk result (state_of reader.new ≡ line_end reader.old.place (state_of reader.old) after.now) }
+    ensures fits { OnOk result (FitsNext (state_of reader.old) (state_of reader.new)) }
 {
-    let mut reader = reader;
     let line = reader.line;
     reader.line += 1;
     match reader.place {
         Place::Inside(0) => push_token(&mut reader.tokens, line, TokenKind::Newline)?,
         Place::Inside(_) => {
             reader.rest = after;
-            return Ok(Step::Goes(reader));
+            return Ok(());
         }
         Place::LineStart => {}
     }
@@ -150,17 +171,18 @@ fn end_line<'a>(reader: Reader<'a>, after: &'a [u8]) -> Result<Step<'a>, Memory>
     reader.place = Place::LineStart;
     reader.indentation = indentation;
     reader.rest = rest;
-    Ok(Step::Goes(reader))
+    Ok(())
 }
 
 /// Blocks open and close in front of the first token of a line.
-fn begin_line(alloc: Global, reader: Reader<'_>) -> Result<Step<'_>, Memory>
-    requires fits { Fits (state_of reader) }
-    requires start { reader.place ≡ Place.LineStart }
-    ensures steps { IfOk result (λ s. step_of s ≡ begin_line (state_of reader.entry)) }
-    ensures fits { IfOk result (λ s. FitsStep (state_of reader.entry) (step_of s)) }
+fn begin_line(alloc: Global, reader: &mut Reader<'_>) -> Result<Option<Stop>, Memory>
+    requires fits { Fits (state_of reader.old) }
+    requires start { reader.old.place ≡ Place.LineStart }
+    ensures steps { IfOk result (λ s. MatchOption s
+        (goes (state_of reader.new) ≡ begin_line (state_of reader.old))
+        (λ stop. stops stop.line stop.kind ≡ begin_line (state_of reader.old))) }
+    ensures fits { IfOk result (λ s. IfNone s (FitsNext (state_of reader.old) (state_of reader.new))) }
 {
-    let mut reader = reader;
     let line = reader.line;
     match reader.levels.level(reader.indentation) {
         Level::Closes(count) => {
@@ -172,21 +194,23 @@ fn begin_line(alloc: Global, reader: Reader<'_>) -> Result<Step<'_>, Memory>
             reader.levels.open(alloc, indentation)?;
             push_token(&mut reader.tokens, line, TokenKind::Indent)?;
         }
-        Level::Refused(kind) => return Ok(Step::Stops { line, kind }),
+        Level::Refused(kind) => return Ok(Some(Stop { line, kind })),
     }
     reader.place = Place::Inside(0);
-    Ok(Step::Goes(reader))
+    Ok(None)
 }
 
-fn take_token(alloc: Global, depth: u32, reader: Reader<'_>) -> Result<Step<'_>, Memory>
-    requires fits { Fits (state_of reader) }
-    requires inside { reader.place ≡ Place.Inside depth }
-    requires some { 0 < length reader.rest.now }
-    requires clean { IsClean reader.rest.now }
-    ensures steps { IfOk result (λ s. TakesToken depth (state_of reader.entry) (step_of s)) }
-    ensures fits { IfOk result (λ s. FitsStep (state_of reader.entry) (step_of s)) }
+fn take_token(alloc: Global, depth: u32, reader: &mut Reader<'_>) -> Result<Option<Stop>, Memory>
+    requires fits { Fits (state_of reader.old) }
+    requires inside { reader.old.place ≡ Place.Inside depth }
+    requires some { 0 < length reader.old.rest.now }
+    requires clean { IsClean reader.old.rest.now }
+    ensures steps { IfOk result (λ s. MatchOption s
+        (TakesToken depth (state_of reader.old) (goes (state_of reader.new)))
+        (λ stop. TakesToken depth (state_of reader.old) (stops stop.line stop.kind))) }
+    ensures fits { IfOk result (λ s. IfNone s (FitsNext (state_of reader.old) (state_of reader.new))) }
 {
-    let mut reader = reader;
+    let line = reader.line;
     match next_token(alloc, depth, reader.rest)? {
         Turn::Takes {
             kind,
@@ -194,24 +218,22 @@ fn take_token(alloc: Global, depth: u32, reader: Reader<'_>) -> Result<Step<'_>,
             depth,
             rest,
         } => {
-            let line = reader.line;
             add_token(&mut reader.tokens, line, kind)?;
             reader.place = Place::Inside(depth);
-            reader.line += lines;
+            reader.line = line + lines;
             reader.rest = rest;
-            Ok(Step::Goes(reader))
+            Ok(None)
         }
         Turn::Begins { style, rest } => {
-            let line = reader.line;
             push_token(&mut reader.tokens, line, TokenKind::FStart)?;
             reader.mode = Mode::Part(OpenText { style, line });
             reader.rest = rest;
-            Ok(Step::Goes(reader))
+            Ok(None)
         }
-        Turn::Refuses { kind, lines } => Ok(Step::Stops {
+        Turn::Refuses { kind, lines } => Ok(Some(Stop {
             line: reader.line + lines,
             kind,
-        }),
+        })),
     }
 }
 

@@ -2,7 +2,8 @@ use Rattle.std.proofs.Common.{sym, subst}
 use Rattle.py_lex.specs.Steps.{start}
 use Rattle.py_lex.specs.Utf8.{IsClean}
 use Rattle.py_lex.specs.Lexes.{Reads, lexed, ends_with, stops_at}
-use Rattle.py_lex.proofs.Reading.{leads_on, start_is_clean}
+use Rattle.py_lex.specs.Views.{state_of}
+use Rattle.py_lex.proofs.Reading.{leads_on, start_is_clean, step_in_line}
 use Rattle.py_lex.proofs.lexer.lex_script.Goals as goal
 
 pub script-preserved : goal.script-preserved
@@ -28,3 +29,14 @@ script-init c = record {
   fits = c.in_ok-reader.ensures.fits c.requires.fits;
   clean = subst (λ x. IsClean x.rest) (sym c.in_ok-reader.ensures.state) (start_is_clean c.args.script.now c.requires.clean);
 }
+
+pub script-preserved-then-is_in_line : goal.script-preserved-then-is_in_line
+script-preserved-then-is_in_line c =
+    let next = rw c.in_default.is at c.in_ok-line.ensures.fits in
+    leads_on _ c.script.invariant (step_in_line (state_of c.script.reader) _ c.if-is_in_line.ensures.0 (rw c.in_default.is at c.in_ok-line.ensures.steps)) next.fits
+
+pub returns-in-Some : goal.returns-in-Some
+returns-in-Some c =
+    c.script.invariant.whole _
+    (stops_at c.in-Some.field-0.line c.in-Some.field-0.kind
+    (step_in_line (state_of c.script.reader) _ c.if-is_in_line.ensures.0 (rw c.in-Some.is at c.in_ok-line.ensures.steps)))
