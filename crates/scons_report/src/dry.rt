@@ -1,9 +1,13 @@
 //! The rules that a dry run lists.
-ghost use Rattle.std.specs.Prelude.{◌≤◌, length, IfOk, IfSome};
+ghost use Rattle.std.specs.Prelude.{◌≡◌, ◌≤◌, ◌++◌, ◌∷◌, [], true, length, slice_set, IfSome, IfNone, OnOk};
 ghost use Rattle.world_api.specs.Looks.{Looks};
 ghost use Rattle.scons_report.specs.Causes.{HasListCause, IsInside};
-ghost use Rattle.task_plan.specs.Plans.{IsIdle};
+ghost use Rattle.scons_report.specs.Dry.{DryLists};
+ghost use Rattle.sign_store.specs.Stores.{map_of_view};
+ghost use Rattle.task_plan.specs.Cycles.{HasNoCycle};
 
+use crate::order::build_order;
+use crate::over::plan_over;
 use build_files::{Inputs, ListEnd, Present, first_target, is_stale, leftover_copies, path_of};
 use deciders::Rec;
 use indexmap::IndexSet;
@@ -12,15 +16,15 @@ use scons_base::limits::DEP_LIMIT;
 use scons_base::{Listing, Memory, NodeId, PathText, Paths, RuleId};
 use sign_store::View;
 use std::alloc::Global;
-use task_plan::{Plan, PlanEvent, Want};
+use task_plan::Plan;
 use world_api::{Hash, World};
 
 /// The rules that were listed so far.
 #[derive(Drop)]
-struct Listed {
-    rules: Vec<RuleId>,
+pub(crate) struct Listed {
+    pub(crate) rules: Vec<RuleId>,
     /// By the numbers of the rules.
-    is_listed: Vec<bool>,
+    pub(crate) is_listed: Vec<bool>,
 }
 
 /// The rules that would be started over the files as they are, in the order of a build at one job: those that are always
@@ -36,12 +40,15 @@ pub fn dry_list<W: World>(
 ) -> Result<Listing<RuleId>, ListEnd>
     ensures looks { Looks W.meaning world.old world.new }
     ensures cause { HasListCause (W.meaning.counts world.old) (W.meaning.counts world.new) result }
+    ensures ok { DryLists W.meaning graph.old graph.new hash (map_of_view view.now) requested.now world.old world.new result }
 {
+    graph.laws();
     let gone = paths_gone(alloc, graph, view, world)?;
     let mut inputs = Inputs::past(alloc, hash, graph, gone);
-    inputs.add_copies(world, graph, requested)?;
-    let plan = Plan::new(alloc, graph, requested)?;
-    let (plan, rules) = go_over(alloc, graph, inputs, plan, view, world)?;
+    let plan = plan_over(alloc, graph, &mut inputs, requested, world)?;
+    let order = build_order(alloc, graph, &plan, requested)?;
+    let rules = list_all(alloc, world, graph, &mut inputs, view, &plan, order.as_slice())?;
+    plan.finishes(graph);
     match cycle_of(alloc, graph, &plan) {
         Some(end) => Err(end),
         None => Ok(Listing::new(rules)),
@@ -79,62 +86,29 @@ fn add_targets(rec: &Rec, paths: &mut IndexSet<PathText>) -> Result<(), Memory> 
     Ok(())
 }
 
-/// Goes over the rules of a plan until it rests, and gives those that are listed. Beyond 2^64 - 1 turns, which would take centuries, it
-/// says want of memory.
+/// Of these rules those that are listed.
 #[tactic(auto, using(crate::proofs::Ending::ending))]
-fn go_over<W: World>(
+fn list_all<W: World>(
     alloc: Global,
-    graph: &mut Graph,
-    mut inputs: Inputs,
-    mut plan: Plan,
-    view: &View,
     world: &mut W,
-) -> Result<(Plan, Vec<RuleId>), ListEnd>
-    ensures looks { Looks W.meaning world.old world.new }
-    ensures cause { HasListCause (W.meaning.counts world.old) (W.meaning.counts world.new) result }
-    ensures rests { IfOk result (λ gone. IsIdle gone.0) }
-{
-    let mut listed = Listed {
-        rules: Vec::new(alloc),
-        is_listed: Vec::new(alloc),
-    };
-    for _turn in 0..u64::MAX {
-        let wanted = plan.next();
-        if matches!(wanted, Want::Wait | Want::Rest) {
-            let Listed { rules, .. } = listed;
-            return Ok((plan, rules));
-        }
-        let event = take_turn(world, graph, &mut inputs, view, &plan, wanted, &mut listed)?;
-        plan.step(graph, event)?;
-    }
-    Err(ListEnd::Memory)
-}
-
-/// Does what is wanted; each rule counts as made.
-#[tactic(auto, using(crate::proofs::Ending::ending))]
-fn take_turn<W: World>(
-    world: &mut W,
-    graph: &mut Graph,
+    graph: &Graph,
     inputs: &mut Inputs,
     view: &View,
     plan: &Plan,
-    wanted: Want,
-    listed: &mut Listed,
-) -> Result<PlanEvent, ListEnd>
+    order: &[RuleId],
+) -> Result<Vec<RuleId>, ListEnd>
     ensures looks { Looks W.meaning world.old world.new }
     ensures cause { HasListCause (W.meaning.counts world.old) (W.meaning.counts world.new) result }
 {
-    match wanted {
-        Want::Scan(rule, file) => {
-            let found = inputs.scanned(world, graph, rule, file)?;
-            Ok(PlanEvent::Scanned(rule, found))
-        }
-        Want::Decide(rule) => {
-            look_at(world, graph, inputs, view, plan.deps(rule), rule, listed)?;
-            Ok(PlanEvent::Fresh(rule))
-        }
-        Want::Wait | Want::Rest => Ok(PlanEvent::Halt),
+    let mut listed = Listed {
+        rules: Vec::new(alloc),
+        is_listed: Vec::from_elem(alloc, false, graph.rules() as usize)?,
+    };
+    for rule in order {
+        look_at(world, graph, inputs, view, plan.deps(*rule), *rule, &mut listed)?;
     }
+    let Listed { rules, .. } = listed;
+    Ok(rules)
 }
 
 /// Lists a rule where it would be started.
@@ -216,11 +190,11 @@ fn depends_on_listed(graph: &Graph, deps: &[NodeId], listed: &Listed) -> bool {
     })
 }
 
-fn list(listed: &mut Listed, rule: RuleId) -> Result<(), Memory> {
+fn list(listed: &mut Listed, rule: RuleId) -> Result<(), Memory>
+    ensures marks { OnOk result (listed.new.is_listed.items ≡ slice_set listed.old.is_listed.items rule.0 true) }
+    ensures rules { OnOk result (listed.new.rules.items ≡ listed.old.rules.items ++ rule ∷ []) }
+{
     let number = rule.0 as usize;
-    for _ in listed.is_listed.len()..number.saturating_add(1) {
-        listed.is_listed.push(false)?;
-    }
     if let Some(is_listed) = listed.is_listed.get_mut(number) {
         *is_listed = true;
     }
@@ -245,8 +219,9 @@ fn path_copied(graph: &Graph, node: NodeId) -> Result<PathText, Memory> {
 
 /// Whether rules wait for themselves, as a fault.
 #[tactic(auto, using(crate::proofs::Ending::ending))]
-fn cycle_of(alloc: Global, graph: &Graph, plan: &Plan) -> Option<ListEnd>
-    ensures { IfSome result IsInside }
+pub(crate) fn cycle_of(alloc: Global, graph: &Graph, plan: &Plan) -> Option<ListEnd>
+    ensures some { IfSome result IsInside }
+    ensures none { IfNone result (HasNoCycle plan.now.states plan.now.rules plan.now.origins) }
 {
     match plan.cycle() {
         Ok(Some(rules)) => Some(cycle_end(alloc, graph, rules.as_slice())),
