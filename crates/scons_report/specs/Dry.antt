@@ -2,6 +2,8 @@
 -- is out of date, and that none is. What a command would make isn't known before it runs: so a rule counts as out of date, too, where it
 -- depends on what a listed rule makes, though that might come out as it stands. That is this project's own, and so is the order.
 use Rattle.std.specs.Prelude.{◌≡◌, ◌<◌, ℕ, true, List, [], ◌∷◌, length, All, Contains, Result, Ok, Err, IfOk}
+use Rattle.std.specs.List.{list_any}
+use Rattle.std.specs.Str.{bytes_eq}
 use Rattle.scons_base.specs.declared.ids.NodeId.{NodeId}
 use Rattle.scons_base.specs.declared.ids.RuleId.{RuleId}
 use Rattle.world_api.specs.Around.{Around}
@@ -66,8 +68,8 @@ pub record IsLeftoverAt (g : RuleGraph) (kept : Map) (around : Around) (path : P
 
 -- these paths are those of the leftover copies, and no others
 pub record AreGone (g : RuleGraph) (kept : Map) (around : Around) (gone : List Path) : Type 0 where
-  pub each : (path : Path) → Contains gone path → IsLeftoverAt g kept around path
-  pub all : (path : Path) → IsLeftoverAt g kept around path → Contains gone path
+  pub each : (path : Path) → list_any (bytes_eq path) gone ≡ true → IsLeftoverAt g kept around path
+  pub all : (path : Path) → IsLeftoverAt g kept around path → list_any (bytes_eq path) gone ≡ true
 
 -- what a build begins with over these files: it takes leftover copies away before it looks at anything
 abbrev pub begun_past : RuleGraph → Hash → Around → List Path → Begun

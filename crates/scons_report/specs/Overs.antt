@@ -1,31 +1,39 @@
 -- A plan that is gone over, where each rule counts as made: what is known of it meanwhile, and when it was gone over to its end.
-use Rattle.std.specs.Prelude.{◌≡◌, ◌≢◌, ◌<◌, ◌++◌, ℕ, Bool, true, false, List, [], ◌∷◌, All, Option, None, Some, Result, OnOk, IfOk, length, get_or, slice_get, ⊤}
+use Rattle.std.specs.Prelude.{◌≡◌, ◌≢◌, ◌<◌, ◌++◌, ℕ, Bool, true, false, List, [], ◌∷◌, All, Option, None, Some, Result, OnOk, IfOk, length, get_or, slice_get, slice_set, ◌||◌, Contains, ⊤}
 use Rattle.std.specs.List.{list_any}
 use Rattle.std.specs.Str.{bytes_eq}
 use Rattle.scons_base.specs.declared.ids.NodeId.{NodeId}
 use Rattle.scons_base.specs.declared.ids.RuleId.{RuleId}
 use Rattle.world_api.specs.Around.{Around}
 use Rattle.world_api.specs.Meaning.{Meaning}
+use Rattle.world_api.specs.Reads.{stamp_of}
+use Rattle.deciders.specs.declared.recorded.Rec.{Rec}
+use Rattle.sign_store.specs.Tables.{Map}
 use Rattle.rule_graph.specs.declared.rule.Rule as declared
 use Rattle.rule_graph.specs.Graphs.{RuleGraph}
-use Rattle.rule_graph.specs.Rules.{are_below}
+use Rattle.rule_graph.specs.Rules.{are_below, rule_of}
 use Rattle.task_plan.specs.Orders.{Visits, is_among}
 use Rattle.task_plan.specs.Plans.{Planned}
 use Rattle.task_plan.specs.Rooted.{makers_in}
 use Rattle.task_plan.specs.Settled.{deps_of}
+use Rattle.task_plan.specs.States.{state_of}
+use Rattle.task_plan.specs.declared.states.RuleState.TheVariants.{Unneeded}
 use Rattle.task_plan.specs.Watched.{AreGoingOn, IsFinished, IsStill}
 use Rattle.build_model.specs.Rules.{Path, Tree, Stamps, Rule, Records, Among}
 use Rattle.build_model.specs.Contents.{in_tree, found_in, dependencies}
 use Rattle.build_model.specs.Needs.{RuleOf, Found, Needs}
 use Rattle.build_model.specs.Steps.{Step, Fresh, IsMissing}
-use Rattle.build_means.specs.Grown.{Begun, begun_setting, rule_numbered}
+use Rattle.build_means.specs.Due.{is_due}
+use Rattle.build_means.specs.Grown.{Begun, begun_setting, rule_numbered, IsGrown}
+use Rattle.build_means.specs.Records.{record_in, records_in, HasOwnDigests}
+use Rattle.build_files.specs.Dueness.{AreIdle, HaveOwnDigests}
 use Rattle.build_files.specs.Kept.{past, stamp_past, AreTrue}
 use Rattle.build_files.specs.Marked.{is_marked, AreGoneOver}
 use Rattle.build_files.specs.declared.end.ListEnd.{ListEnd}
 use Rattle.build_files.specs.declared.inputs.Inputs.{Inputs}
 use Rattle.plan_means.specs.Planning.{IsGraphNow}
 use Rattle.plan_means.specs.Ties.{Ties}
-use Rattle.scons_report.specs.Dry.{IsListed, AreThose, rules_with}
+use Rattle.scons_report.specs.Dry.{IsListed, AreThose, IsDryList, rules_with}
 use Rattle.scons_report.specs.declared.dry.Listed.{Listed}
 
 -- the steps of a build in which each of these rules is found up to date, the latest first
@@ -108,3 +116,54 @@ pub record AreListed (b : Begun) (t : Tree) (stamps : Stamps) (m : Records) (g :
   pub known : All (λ id. id.0 < length g.rules) listed.rules.items
   pub no_lack : (number : ℕ) (r : Rule) (path : Path) → is_among number front ≡ true → rule_numbered b g number ≡ Some r →
       Among path (dependencies (begun_setting b) (in_tree t) r) → IsMissing (begun_setting b) t path → ⊥
+
+-- whether a rule makes a file that was listed; a file that no rule makes has none
+abbrev pub makes_listed : Listed → Option ℕ → Bool
+makes_listed listed None = false
+makes_listed listed (Some rule) = was_listed listed rule
+
+-- whether some of these files are made by a rule that was listed
+abbrev pub is_fed_by : RuleGraph → Listed → List NodeId → Bool
+is_fed_by g listed nodes = list_any (λ n. makes_listed listed (rule_of g.rules n.0)) nodes
+
+-- a rule is listed where this says so, and else nothing changes
+abbrev pub Lists : Listed → RuleId → Listed → Bool → Type 0
+Lists old rule new true = (new.is_listed.items ≡ slice_set old.is_listed.items rule.0 true) × (new.rules.items ≡ old.rules.items ++ rule ∷ [])
+Lists old rule new false = new ≡ old
+
+-- It is so of whether a rule is fed, or due by the files around, where this record of its targets is the one of now.
+abbrev pub Judges : {W : Type 0} → Meaning W → RuleGraph → Map → W → W → RuleId → Rec → Bool → (Bool → Type 0) → Type 0
+Judges m g kept old new rule now fed IsSo =
+    m.tells new → AreIdle (m.around old) now.targets → HaveOwnDigests kept → HasOwnDigests now → (b : Begun) (r : Rule) → IsGrown b g →
+    rule_numbered b g rule.0 ≡ Some r → now.targets ≡ r.targets →
+    IsSo (fed || is_due r (m.around old).tree (stamp_of (m.around old)) (records_in kept) (record_in now))
+
+-- Rules stay ready to be listed behind a look.
+abbrev pub StaysReady : {W : Type 0} → Meaning W → RuleGraph → Inputs → Planned → W → Inputs → W → Type 0
+StaysReady m g inputs plan old later new =
+    m.tells new → (b : Begun) (requested : List NodeId) (t : Tree) (stamps : Stamps) → IsReadyToList b requested t stamps g inputs plan (m.around old) →
+    IsReadyToList b requested t stamps g later plan (m.around new)
+
+-- A needed rule is listed where it should be, behind all that it needs.
+abbrev pub ListsNext : {W T : Type 0} → Meaning W → RuleGraph → Map → Inputs → Planned → W → W → RuleId → Listed → Listed → Result T ListEnd → Type 0
+ListsNext m g kept inputs plan old new rule before after result =
+    m.tells new → HaveOwnDigests kept → (b : Begun) (requested : List NodeId) (t : Tree) (stamps : Stamps) (front : List RuleId) →
+    IsReadyToList b requested t stamps g inputs plan (m.around old) → state_of plan.states rule.0 ≢ Unneeded →
+    ((other : ℕ) → is_among other (needs_over g plan rule.0) ≡ true → is_among other front ≡ true) →
+    AreListed b t stamps (records_in kept) g front before → OnOk result (AreListed b t stamps (records_in kept) g (front ++ rule ∷ []) after)
+
+-- All rules of an order are gone over, and those are given that are listed.
+abbrev pub ListsAll : {W : Type 0} → Meaning W → RuleGraph → Map → Inputs → Planned → W → W → List RuleId → Result (List RuleId) ListEnd → Type 0
+ListsAll m g kept inputs plan old new order result =
+    m.tells new → HaveOwnDigests kept → (b : Begun) (requested : List NodeId) (t : Tree) (stamps : Stamps) →
+    IsReadyToList b requested t stamps g inputs plan (m.around old) → IsPlannedOrder g plan requested order →
+    IfOk result (λ rules. IsDryList b g stamps (records_in kept) requested rules)
+
+-- whether a path stands among these
+abbrev pub among_paths : List Path → Path → Bool
+among_paths paths path = list_any (bytes_eq path) paths
+
+-- these paths are the targets of some of these records, and all of them
+pub record AreTargetsOf (recs : List Rec) (paths : List Path) : Type 0 where
+  pub each : (path : Path) → among_paths paths path ≡ true → (rec : Rec) × Contains recs rec × Contains rec.targets path
+  pub all : (rec : Rec) (path : Path) → Contains recs rec → Contains rec.targets path → among_paths paths path ≡ true

@@ -1,8 +1,11 @@
 //! The rules that a dry run lists.
-ghost use Rattle.std.specs.Prelude.{◌≡◌, ◌≤◌, ◌++◌, ◌∷◌, [], true, length, slice_set, IfSome, IfNone, OnOk};
+ghost use Rattle.std.specs.Prelude.{◌≡◌, ◌≤◌, ◌||◌, ℕ, List, ◌++◌, ◌∷◌, [], true, length, slice_set, IfOk, IfSome, IfNone, OnOk};
 ghost use Rattle.world_api.specs.Looks.{Looks};
 ghost use Rattle.scons_report.specs.Causes.{HasListCause, IsInside};
-ghost use Rattle.scons_report.specs.Dry.{DryLists};
+ghost use Rattle.rule_graph.specs.Rules.{rule_of};
+ghost use Rattle.build_files.specs.Leftovers.{AtRest};
+ghost use Rattle.scons_report.specs.Dry.{AreGone, DryLists};
+ghost use Rattle.scons_report.specs.Overs.{among_paths, is_fed_by, makes_listed, AreTargetsOf, Judges, Lists, ListsAll, ListsNext, StaysReady};
 ghost use Rattle.sign_store.specs.Stores.{map_of_view};
 ghost use Rattle.task_plan.specs.Cycles.{HasNoCycle};
 
@@ -65,13 +68,16 @@ fn paths_gone<W: World>(
 ) -> Result<IndexSet<PathText>, ListEnd>
     ensures looks { Looks W.meaning world.old world.new }
     ensures cause { HasListCause (W.meaning.counts world.old) (W.meaning.counts world.new) result }
+    ensures gone { AtRest W.meaning world.new → IfOk result (λ gone. AreGone graph.now (map_of_view view.now) (W.meaning.around world.new) gone.keys) }
 {
     let left = leftover_copies(alloc, world, graph, view)?;
     Ok(targets_of(alloc, left.as_slice())?)
 }
 
 /// The targets of these records.
-fn targets_of(alloc: Global, recs: &[Rec]) -> Result<IndexSet<PathText>, Memory> {
+fn targets_of(alloc: Global, recs: &[Rec]) -> Result<IndexSet<PathText>, Memory>
+    ensures { IfOk result (λ paths. AreTargetsOf recs.now paths.keys) }
+{
     let mut paths = IndexSet::new(alloc);
     for rec in recs {
         add_targets(rec, &mut paths)?;
@@ -79,7 +85,9 @@ fn targets_of(alloc: Global, recs: &[Rec]) -> Result<IndexSet<PathText>, Memory>
     Ok(paths)
 }
 
-fn add_targets(rec: &Rec, paths: &mut IndexSet<PathText>) -> Result<(), Memory> {
+fn add_targets(rec: &Rec, paths: &mut IndexSet<PathText>) -> Result<(), Memory>
+    ensures { OnOk result ((path : List ℕ) → among_paths paths.new.keys path ≡ (among_paths paths.old.keys path || among_paths rec.now.targets path)) }
+{
     for target in rec.targets.as_slice() {
         let _ = paths.insert(target.copy()?)?;
     }
@@ -99,13 +107,14 @@ fn list_all<W: World>(
 ) -> Result<Vec<RuleId>, ListEnd>
     ensures looks { Looks W.meaning world.old world.new }
     ensures cause { HasListCause (W.meaning.counts world.old) (W.meaning.counts world.new) result }
+    ensures lists { ListsAll W.meaning graph.now (map_of_view view.now) inputs.old plan.now world.old world.new order.now result }
 {
     let mut listed = Listed {
         rules: Vec::new(alloc),
         is_listed: Vec::from_elem(alloc, false, graph.rules() as usize)?,
     };
     for rule in order {
-        look_at(world, graph, inputs, view, plan.deps(*rule), *rule, &mut listed)?;
+        look_at(world, graph, inputs, view, plan, *rule, &mut listed)?;
     }
     let Listed { rules, .. } = listed;
     Ok(rules)
@@ -118,13 +127,16 @@ fn look_at<W: World>(
     graph: &Graph,
     inputs: &mut Inputs,
     view: &View,
-    deps: &[NodeId],
+    plan: &Plan,
     rule: RuleId,
     listed: &mut Listed,
 ) -> Result<(), ListEnd>
     ensures looks { Looks W.meaning world.old world.new }
     ensures cause { HasListCause (W.meaning.counts world.old) (W.meaning.counts world.new) result }
+    ensures ready { StaysReady W.meaning graph.now inputs.old plan.now world.old inputs.new world.new }
+    ensures lists { ListsNext W.meaning graph.now (map_of_view view.now) inputs.old plan.now world.old world.new rule listed.old listed.new result }
 {
+    let deps = plan.deps(rule);
     if deps.len() > DEP_LIMIT as usize {
         return Err(too_many_deps());
     }
@@ -155,6 +167,8 @@ fn list_stale<W: World>(
 ) -> Result<(), ListEnd>
     ensures looks { Looks W.meaning world.old world.new }
     ensures cause { HasListCause (W.meaning.counts world.old) (W.meaning.counts world.new) result }
+    ensures lists { Judges W.meaning graph.now (map_of_view view.now) world.old world.new rule now.now (is_fed_by graph.now listed.old deps.now)
+        (λ due. OnOk result (Lists listed.old rule listed.new due)) }
 {
     if is_due(world, graph, view, deps, rule, now, listed)? {
         list(listed, rule)?;
@@ -175,6 +189,8 @@ fn is_due<W: World>(
 ) -> Result<bool, ListEnd>
     ensures looks { Looks W.meaning world.old world.new }
     ensures cause { HasListCause (W.meaning.counts world.old) (W.meaning.counts world.new) result }
+    ensures due { Judges W.meaning graph.now (map_of_view view.now) world.old world.new rule now.now (is_fed_by graph.now listed.now deps.now)
+        (λ due. IfOk result (λ is. is ≡ due)) }
 {
     if depends_on_listed(graph, deps, listed) {
         return Ok(true);
@@ -183,13 +199,23 @@ fn is_due<W: World>(
 }
 
 /// Whether the rule of some dependency is listed.
-fn depends_on_listed(graph: &Graph, deps: &[NodeId], listed: &Listed) -> bool {
-    deps.iter().any(|node| match graph.rule_of(*node) {
-        Some(rule) => listed.is_listed.get(rule.0 as usize) == Some(&true),
-        None => false,
-    })
+fn depends_on_listed(graph: &Graph, deps: &[NodeId], listed: &Listed) -> bool
+    ensures { result ≡ is_fed_by graph.now listed.now deps.now }
+{
+    deps.iter().any(|node| makes_listed(graph, listed, *node))
 }
 
+/// Whether the rule of a file is listed.
+fn makes_listed(graph: &Graph, listed: &Listed, node: NodeId) -> bool
+    ensures { result ≡ makes_listed listed.now (rule_of graph.now.rules node.0) }
+{
+    match graph.rule_of(node) {
+        Some(rule) => listed.is_listed.get(rule.0 as usize) == Some(&true),
+        None => false,
+    }
+}
+
+/// Puts a rule behind those that are listed.
 fn list(listed: &mut Listed, rule: RuleId) -> Result<(), Memory>
     ensures marks { OnOk result (listed.new.is_listed.items ≡ slice_set listed.old.is_listed.items rule.0 true) }
     ensures rules { OnOk result (listed.new.rules.items ≡ listed.old.rules.items ++ rule ∷ []) }
