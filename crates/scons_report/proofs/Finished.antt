@@ -40,7 +40,7 @@ use Rattle.plan_means.specs.Lists.{AreReach}
 use Rattle.plan_means.specs.Ties.{IsDecidedState, IsAt}
 use Rattle.plan_means.proofs.Knowing.{Knows, rule_made, stands_among, among_stands, one_below, in_needs, in_required, needed_met, need_below, need_at}
 use Rattle.plan_means.proofs.Needing.{maker_in}
-use Rattle.plan_means.proofs.Single.{one_number}
+use Rattle.plan_means.proofs.Single.{one_number, target_of}
 use Rattle.plan_means.proofs.Taking.{rules_numbered, numbered_append, numbered_first, numbered_there, has_number}
 use Rattle.scons_report.specs.Overs.{all_fresh, AreInOrder, IsOver, required_of, needs_over, IsPlannedOrder}
 use Rattle.scons_report.specs.Dry.{rules_with}
@@ -170,6 +170,16 @@ module _ (b : Begun) (requested : List NodeId) (t : Tree) (g : RuleGraph) (input
       s.rule_of (path_of g.nodes n) ≡ rule_numbered b g m
   path_rule n m lt e = rule_made b g requested t Made plan is.now is.ties n m lt e
 
+  -- a needed rule is the rule of its targets
+  pub target_rule : (number : ℕ) (needed : state_of plan.states number ≢ Unneeded) (p : Path) → Among p (kn number needed).rule.targets →
+      s.rule_of p ≡ Some (kn number needed).rule
+  target_rule number needed p m =
+      let k = kn number needed in
+      let n = among_map (path_of g.nodes) k.of.targets (among_same (sym k.names.targets) m) in
+      let h = among_stands k.of.targets n.0 n.1 in
+      ap s.rule_of n.2
+      ∙ path_rule n.0 number (one_below g k.of.targets n.0 k.is.targets h) (target_of b g is.now k.of number n.0 k.stands h) ∙ k.numbered
+
   -- ---- the build order
 
   one_rule : (n : NodeId) (o : Option ℕ) → IsMetNode n → rule_of g.rules n.0 ≡ o → (rules : List RuleId) →
@@ -189,7 +199,7 @@ module _ (b : Begun) (requested : List NodeId) (t : Tree) (g : RuleGraph) (input
   abbrev needs : Rule → List Rule
   needs r = needs_in_order s.rule_of s.limit found r
 
-  needed_nodes : (number : ℕ) (needed : state_of plan.states number ≢ Unneeded) →
+  pub needed_nodes : (number : ℕ) (needed : state_of plan.states number ≢ Unneeded) →
       required_of (slice_get g.rules number) ++ deps_of plan.rules number ≡ (kn number needed).kept.required ++ (kn number needed).kept.deps
   needed_nodes number needed =
       let k = kn number needed in

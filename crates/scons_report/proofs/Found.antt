@@ -1,6 +1,7 @@
 -- What a scan finds is what a file includes, by paths.
-use Rattle.std.proofs.Common.{◌≡◌, ◌<◌, ◌∙◌, ◌&&◌, inl, inr, ℕ, zero, suc, true, false, Bool, List, [], ◌∷◌, Option, Some, None, length, refl, sym, ap, arith, lt-ltb, option_map}
+use Rattle.std.proofs.Common.{◌≡◌, ◌<◌, ◌≤◌, ◌∙◌, ◌++◌, ◌&&◌, inl, inr, ℕ, zero, suc, true, false, Bool, List, [], ◌∷◌, Option, Some, None, length, refl, sym, ap, arith, lt-ltb, ltb-true, length-append, option_map}
 use Rattle.std.specs.Prelude.{slice_get, nat_lt, unwrap_or}
+use Rattle.std.proofs.lemmas.Bool.{and_parts, and_from}
 use Rattle.std.specs.List.{filter_map}
 use Rattle.scons_base.specs.declared.ids.NodeId.{NodeId}
 use Rattle.rule_graph.specs.declared.rule.Rule as declared
@@ -18,7 +19,7 @@ use Rattle.build_means.proofs.Growing.{get_either, paths_stay}
 use Rattle.build_means.proofs.Lists.{none_some, some_same, at_place}
 use Rattle.build_means.proofs.Readings.{rule_with_target}
 use Rattle.build_files.specs.Kept.{includes_in}
-use Rattle.build_files.specs.Searched.{meant, AreNodesOf}
+use Rattle.build_files.specs.Searched.{meant, AreNodesOf, GrowsTo}
 use Rattle.plan_means.specs.Planning.{IsGraphNow}
 
 pub path_at : (g : RuleGraph) (node : NodeId) (path : Path) → slice_get g.nodes node.0 ≡ Some path → path_of g.nodes node ≡ path
@@ -99,3 +100,18 @@ module _ (b : Begun) (g : RuleGraph) (now : IsGraphNow b g) (number : ℕ) (r : 
   includes_by None paths p same = refl
   includes_by (Some bytes) paths p same = ap (λ ps. filter_map (found_for b.graph b.tree ps p) (includes_in (Some bytes))) same
 
+
+-- ---- more nodes
+
+below_more : (m n : ℕ) (nodes : List NodeId) → m ≤ n → are_below m nodes ≡ true → are_below n nodes ≡ true
+below_more m n [] l e = refl
+below_more m n (x ∷ nodes) l e =
+    let both = and_parts (nat_lt x.0 m) (are_below m nodes) e in
+    let first : x.0 < m = ltb-true x.0 m both.0 in
+    and_from (nat_lt x.0 n) (are_below n nodes) (lt-ltb x.0 n (omega arith)) (below_more m n nodes l both.1)
+
+pub below_grown : (g h : RuleGraph) (nodes : List NodeId) → GrowsTo g h → are_below (length g.nodes) nodes ≡ true →
+    are_below (length h.nodes) nodes ≡ true
+below_grown g h nodes grows e =
+    let more : length h.nodes ≡ length (g.nodes ++ grows.more) = ap length grows.nodes in
+    below_more (length g.nodes) (length h.nodes) nodes (omega (arith, more, length-append g.nodes grows.more)) e

@@ -1,7 +1,7 @@
 -- A plan that is gone over, where each rule counts as made: it begins so, and stays so.
 use Rattle.std.proofs.Common.{◌≡◌, ◌≢◌, ◌≤◌, ◌<◌, ◌⊎◌, inl, inr, ◌∙◌, ◌++◌, ◌||◌, ℕ, true, false, Bool, List, [], ◌∷◌, length, Some, None, refl, sym, subst, ap, arith, get_or-set_same}
 use Rattle.std.proofs.lemmas.List.{get_or_past}
-use Rattle.std.specs.Prelude.{slice_get, slice_set, if◌then◌else◌}
+use Rattle.std.specs.Prelude.{slice_get, slice_set, if◌then◌else◌, is_err, Result, Ok, Err, OnOk}
 use Rattle.std.specs.List.{list_all}
 use Rattle.scons_base.specs.declared.ids.NodeId.{NodeId}
 use Rattle.scons_base.specs.declared.ids.RuleId.{RuleId}
@@ -14,10 +14,15 @@ use Rattle.world_api.specs.Around.{Around, Running, IsRunningTarget}
 use Rattle.world_api.specs.Calls.{Asks}
 use Rattle.task_plan.specs.States.{state_of}
 use Rattle.task_plan.specs.Named.{stands}
-use Rattle.task_plan.specs.Plans.{Planned, AreMet, IsDecidedNext, IsScannedNext, decided}
+use Rattle.task_plan.specs.Admits.{Fits, AllFollow, Knows as Learns}
+use Rattle.task_plan.specs.Met.{AllMet, AreFrom, AreNodes}
+use Rattle.task_plan.specs.Ordered.{KeepsOrder}
+use Rattle.task_plan.specs.Plans.{Planned, AreMet, Goes, IsDecidedNext, IsScannedNext, decided, is_halt}
+use Rattle.task_plan.specs.Rooted.{AreReached, KeepsSought}
+use Rattle.task_plan.specs.declared.want.PlanEvent.{PlanEvent}
 use Rattle.task_plan.specs.Queues.{is_open}
 use Rattle.task_plan.specs.Settled.{Kept, is_done, is_scanned, IsReady as IsThrough}
-use Rattle.task_plan.specs.Watched.{AreGoingOn, IsGoingOn}
+use Rattle.task_plan.specs.Watched.{AreGoingOn, IsComplete, IsGoingOn}
 use Rattle.task_plan.specs.declared.states.RuleState.{RuleState}
 use Rattle.task_plan.specs.declared.states.RuleState.TheVariants.{Unneeded, Waiting, Settled}
 use Rattle.task_plan.specs.declared.want.PlanEvent.TheVariants as told
@@ -72,6 +77,7 @@ settled_fresh [] = refl
 settled_fresh (r ∷ rules) = ap (λ l. r ∷ l) (settled_fresh rules)
 
 done_fresh : (rules : List Rule) {r : Rule} → Among r rules → Among r (done (all_fresh rules))
+done_fresh [] m = elim m [ ]
 done_fresh (r ∷ rules) here = here
 done_fresh (r ∷ rules) (there m) = there (done_fresh rules m)
 
@@ -85,18 +91,18 @@ set_here states number v needed = get_or-set_same states number v Unneeded (with
     within (inr le) = absurd (needed (get_or_past states number Unneeded le))
 
 -- nothing runs
-none_runs : (around : Around) → around.running ≡ [] → (path : Path) → IsRunningTarget around.running path → ⊥
+pub none_runs : (around : Around) → around.running ≡ [] → (path : Path) → IsRunningTarget around.running path → ⊥
 none_runs around idle path target =
     let none = subst (λ (r : List Running). IsRunningTarget r path) idle target in
     absurd (omega (arith, none.1.1))
 
 -- the files are as they were behind a look
-past_same : (gone : List Path) (old new : Around) → old.running ≡ [] → Asks old new → (path : Path) →
+pub past_same : (gone : List Path) (old new : Around) → old.running ≡ [] → Asks old new → (path : Path) →
     looked_past gone new.tree path ≡ looked_past gone old.tree path
 past_same gone old new idle asks path =
     ap (λ (c : Content). looked_past gone (λ _. c) path) (asks.files path (none_runs old idle path))
 
-gone_same : (old new : Inputs) (tree : Tree) (path : Path) → new.gone ≡ old.gone →
+pub gone_same : (old new : Inputs) (tree : Tree) (path : Path) → new.gone ≡ old.gone →
     looked_past new.gone.keys tree path ≡ looked_past old.gone.keys tree path
 gone_same old new tree path same = ap (λ g. looked_past g.keys tree path) same
 
@@ -323,3 +329,41 @@ module _ (b : Begun) (requested : List NodeId) (t : Tree) (g : RuleGraph) (input
 
         at_number : (rule : RuleId) → rule.0 ≡ number → after.states ≡ decided plan rule.0 Settled → after.states ≡ decided plan number Settled
         at_number rule same e = e ∙ ap (λ n. decided plan n Settled) same
+
+-- ---- a plan takes a step
+
+-- where a step is taken, all is so that is told of it
+pub step_on : {T E : Type 0} (g : RuleGraph) (old : Planned) (event : PlanEvent) (new : Planned) (r : Result T E) → Goes old event new.states →
+    OnOk r (Learns g old event new) → OnOk r (Fits g old → Fits g new) → AllFollow new → OnOk r (AreFrom g old → AreFrom g new) →
+    OnOk r (AreNodes g event → Fits g old → AllMet old → AllMet new) →
+    OnOk r (AreNodes g event → Fits g old → AreFrom g old → AllMet old → AreReached old → AreReached new) →
+    OnOk r (AreNodes g event → Fits g old → AreFrom g old → AllMet old → AreReached old → KeepsSought old new) →
+    OnOk r (new.notes.roots ≡ old.notes.roots) →
+    OnOk r (AreNodes g event → Fits g old → AreFrom g old → AllMet old → AreReached old → IsComplete old → IsComplete new) →
+    OnOk r (AreNodes g event → Fits g old → AreFrom g old → AllMet old → KeepsOrder old → KeepsOrder new) → OnOk r (IsStep g old event new)
+step_on g old event later (Ok v) states knows fits follow origins needs only sought roots complete order = record {
+  states = states;
+  knows = knows;
+  fits = fits;
+  follow = follow;
+  origins = origins;
+  needs = needs;
+  only = only;
+  sought = sought;
+  roots = roots;
+  complete = complete;
+  order = order;
+}
+step_on g old event later (Err e) states knows fits follow origins needs only sought roots complete order = tt
+
+pub goes_on : (old new halts failed : Bool) → old ≡ false → halts ≡ false → failed ≡ false → new ≡ (old || (halts || failed)) → new ≡ false
+goes_on old new halts failed a h f e = rw (e, a, h, f) refl
+
+pub settles_on : {T E : Type 0} (b : Begun) (requested : List NodeId) (t : Tree) (g : RuleGraph) (inputs : Inputs) (plan : Planned) (around : Around) →
+    IsOver b requested t g inputs plan around → (rule : RuleId) → IsDecidedNext plan rule.0 → (after : Planned) (r : Result T E) →
+    OnOk r (IsStep g plan (told.Fresh rule) after) → after.halted ≡ (plan.halted || (is_halt (told.Fresh rule) || is_err r)) →
+    OnOk r (IsOver b requested t g inputs after around)
+settles_on b requested t g inputs plan around is rule next after (Ok v) step halted =
+    settles_over b requested t g inputs plan around is rule.0 next rule refl after step
+    (goes_on plan.halted after.halted false false is.goes refl refl halted)
+settles_on b requested t g inputs plan around is rule next after (Err e) step halted = tt

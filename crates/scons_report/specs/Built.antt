@@ -42,7 +42,7 @@ ShowsMade b t g nodes children =
 pub record IsBehind (b : Begun) (g : RuleGraph) (declared : ℕ) (around : Around) : Type 0 where
   pub read : IsReading b.graph
   pub grown : IsGrown b g
-  pub declared : declared ≡ length b.graph.rules
+  pub count : declared ≡ length b.graph.rules
   pub rest : (path : Path) → is_made g path ≡ false → around.tree path ≡ b.tree path
   pub idle : around.running ≡ []
 

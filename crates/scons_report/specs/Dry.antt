@@ -1,7 +1,7 @@
 -- Which rules a dry run lists. The manual page of SCons says under `-n` that the commands are printed that would be executed to build what
 -- is out of date, and that none is. What a command would make isn't known before it runs: so a rule counts as out of date, too, where it
 -- depends on what a listed rule makes, though that might come out as it stands. That is this project's own, and so is the order.
-use Rattle.std.specs.Prelude.{◌≡◌, ◌<◌, ℕ, true, List, [], ◌∷◌, length, All, Contains, Result, Ok, Err, IfOk}
+use Rattle.std.specs.Prelude.{◌≡◌, ◌<◌, ℕ, true, List, [], ◌∷◌, length, All, Contains, Option, Some, None, Result, Ok, Err, IfOk}
 use Rattle.std.specs.List.{list_any}
 use Rattle.std.specs.Str.{bytes_eq}
 use Rattle.scons_base.specs.declared.ids.NodeId.{NodeId}
@@ -76,10 +76,10 @@ abbrev pub begun_past : RuleGraph → Hash → Around → List Path → Begun
 begun_past g hash around gone = record { graph = g; law = around.law; hash = hash; tree = past gone around.tree }
 
 -- A dry run over these records and files lists these rules. The graph as it was read has grown by the copy rules that came up.
-pub record ListsDry (g h : RuleGraph) (hash : Hash) (kept : Map) (around : Around) (requested : List NodeId) (list : List RuleId) : Type 0 where
+pub record ListsDry (g h : RuleGraph) (hash : Hash) (kept : Map) (around : Around) (requested : List NodeId) (rules : List RuleId) : Type 0 where
   pub gone : List Path
   pub are_gone : AreGone g kept around gone
-  pub list : IsDryList (begun_past g hash around gone) h (stamp_past gone around) (records_in kept) requested list
+  pub list : IsDryList (begun_past g hash around gone) h (stamp_past gone around) (records_in kept) requested rules
 
 -- So it does in a world that tells and where nothing runs.
 abbrev pub DryLists : {W : Type 0} → Meaning W → RuleGraph → RuleGraph → Hash → Map → List NodeId → W → W → Result (List RuleId) ListEnd → Type 0

@@ -98,7 +98,7 @@ pub record IsReadyToList (b : Begun) (requested : List NodeId) (t : Tree) (stamp
     (around : Around) : Type 0 where
   pub over : IsOver b requested t g inputs plan around
   pub finished : IsFinished plan
-  pub stamps : (path : Path) → stamp_past inputs.gone.keys around path ≡ stamps path
+  pub times : (path : Path) → stamp_past inputs.gone.keys around path ≡ stamps path
   pub targets : (path : Path) (r : Rule) → (begun_setting b).rule_of path ≡ Some r → list_any (bytes_eq path) inputs.gone.keys ≡ false
 
 -- whether the rule of a number was listed
@@ -155,15 +155,14 @@ ListsNext m g kept inputs plan old new rule before after result =
 -- All rules of an order are gone over, and those are given that are listed.
 abbrev pub ListsAll : {W : Type 0} → Meaning W → RuleGraph → Map → Inputs → Planned → W → W → List RuleId → Result (List RuleId) ListEnd → Type 0
 ListsAll m g kept inputs plan old new order result =
-    m.tells new → HaveOwnDigests kept → (b : Begun) (requested : List NodeId) (t : Tree) (stamps : Stamps) →
-    IsReadyToList b requested t stamps g inputs plan (m.around old) → IsPlannedOrder g plan requested order →
+    m.tells new → HaveOwnDigests kept → (b : Begun) (requested : List NodeId) (stamps : Stamps) →
+    IsReadyToList b requested b.tree stamps g inputs plan (m.around old) → IsPlannedOrder g plan requested order →
     IfOk result (λ rules. IsDryList b g stamps (records_in kept) requested rules)
 
 -- whether a path stands among these
 abbrev pub among_paths : List Path → Path → Bool
 among_paths paths path = list_any (bytes_eq path) paths
 
--- these paths are the targets of some of these records, and all of them
-pub record AreTargetsOf (recs : List Rec) (paths : List Path) : Type 0 where
-  pub each : (path : Path) → among_paths paths path ≡ true → (rec : Rec) × Contains recs rec × Contains rec.targets path
-  pub all : (rec : Rec) (path : Path) → Contains recs rec → Contains rec.targets path → among_paths paths path ≡ true
+-- these paths are the targets of these records
+abbrev pub AreTargetsOf : List Rec → List Path → Type 0
+AreTargetsOf recs paths = (path : Path) → among_paths paths path ≡ list_any (λ rec. among_paths rec.targets path) recs

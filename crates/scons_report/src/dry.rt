@@ -3,7 +3,6 @@ ghost use Rattle.std.specs.Prelude.{◌≡◌, ◌≤◌, ◌||◌, ℕ, List, �
 ghost use Rattle.world_api.specs.Looks.{Looks};
 ghost use Rattle.scons_report.specs.Causes.{HasListCause, IsInside};
 ghost use Rattle.rule_graph.specs.Rules.{rule_of};
-ghost use Rattle.build_files.specs.Leftovers.{AtRest};
 ghost use Rattle.scons_report.specs.Dry.{AreGone, DryLists};
 ghost use Rattle.scons_report.specs.Overs.{among_paths, is_fed_by, makes_listed, AreTargetsOf, Judges, Lists, ListsAll, ListsNext, StaysReady};
 ghost use Rattle.sign_store.specs.Stores.{map_of_view};
@@ -68,7 +67,8 @@ fn paths_gone<W: World>(
 ) -> Result<IndexSet<PathText>, ListEnd>
     ensures looks { Looks W.meaning world.old world.new }
     ensures cause { HasListCause (W.meaning.counts world.old) (W.meaning.counts world.new) result }
-    ensures gone { AtRest W.meaning world.new → IfOk result (λ gone. AreGone graph.now (map_of_view view.now) (W.meaning.around world.new) gone.keys) }
+    ensures gone { W.meaning.tells world.new → (W.meaning.around world.old).running ≡ []
+        → IfOk result (λ gone. AreGone graph.now (map_of_view view.now) (W.meaning.around world.old) gone.keys) }
 {
     let left = leftover_copies(alloc, world, graph, view)?;
     Ok(targets_of(alloc, left.as_slice())?)
@@ -221,8 +221,8 @@ fn list(listed: &mut Listed, rule: RuleId) -> Result<(), Memory>
     ensures rules { OnOk result (listed.new.rules.items ≡ listed.old.rules.items ++ rule ∷ []) }
 {
     let number = rule.0 as usize;
-    if let Some(is_listed) = listed.is_listed.get_mut(number) {
-        *is_listed = true;
+    if number < listed.is_listed.len() {
+        listed.is_listed[number] = true;
     }
     listed.rules.push(rule)?;
     Ok(())

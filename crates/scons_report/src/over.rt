@@ -29,6 +29,7 @@ pub(crate) fn plan_over<W: World>(
 ) -> Result<Plan, ListEnd>
     ensures looks { Looks W.meaning world.old world.new }
     ensures cause { HasListCause (W.meaning.counts world.old) (W.meaning.counts world.new) result }
+    ensures gone { inputs.new.gone ≡ inputs.old.gone }
     ensures over { IfOk result (GoesOver W.meaning graph.old inputs.old nodes.now world.old graph.new inputs.new world.new) }
 {
     inputs.add_copies(world, graph, nodes)?;
@@ -48,6 +49,7 @@ fn scan_all<W: World>(
 ) -> Result<(), ListEnd>
     ensures looks { Looks W.meaning world.old world.new }
     ensures cause { HasListCause (W.meaning.counts world.old) (W.meaning.counts world.new) result }
+    ensures gone { inputs.new.gone ≡ inputs.old.gone }
     ensures over { StaysOver W.meaning graph.old inputs.old plan.old world.old graph.new inputs.new plan.new world.new result }
     ensures still { OnOk result (plan.new.halted ≡ false → IsComplete plan.new → IsStill plan.new) }
 {
@@ -73,6 +75,7 @@ fn scan<W: World>(
 ) -> Result<(), ListEnd>
     ensures looks { Looks W.meaning world.old world.new }
     ensures cause { HasListCause (W.meaning.counts world.old) (W.meaning.counts world.new) result }
+    ensures gone { inputs.new.gone ≡ inputs.old.gone }
     ensures over { IsScannedNext plan.old rule.0 file
         → StaysOver W.meaning graph.old inputs.old plan.old world.old graph.new inputs.new plan.new world.new result }
 {
