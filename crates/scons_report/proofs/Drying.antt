@@ -1,11 +1,11 @@
 -- The list of a dry run, from its beginning to its end.
-use Rattle.std.proofs.Common.{◌≡◌, ◌≢◌, ◌<◌, ◌∙◌, ◌++◌, ℕ, zero, suc, Bool, Contains, true, false, List, [], ◌∷◌, All, length, take, drop, replicate, Option, Some, None, refl, sym, subst, ap, arith}
+use Rattle.std.proofs.Common.{◌≡◌, ◌≢◌, ◌<◌, ◌≤◌, ◌∙◌, ◌++◌, ◌+◌, ℕ, zero, suc, Bool, Contains, true, false, List, [], ◌∷◌, All, length, take, take_all, drop, replicate, Option, Some, None, refl, sym, subst, ap, arith}
 use Rattle.std.specs.Prelude.{slice_get, get_or, Result, Ok, Err, OnOk, IfOk}
 use Rattle.std.specs.List.{list_any}
 use Rattle.std.specs.Str.{bytes_eq}
 use Rattle.std.proofs.lemmas.List.{get_or-replicate, get_or_past, length-replicate}
 use Rattle.std.proofs.lemmas.List.Elements.{All-nil}
-use Rattle.std.proofs.lemmas.Option.{slice_get_within}
+use Rattle.std.proofs.lemmas.Option.{slice_get-get_or}
 use Rattle.scons_base.specs.declared.ids.NodeId.{NodeId}
 use Rattle.scons_base.specs.declared.ids.RuleId.{RuleId}
 use Rattle.world_api.specs.Around.{Around}
@@ -13,7 +13,9 @@ use Rattle.world_api.specs.Calls.{Asks}
 use Rattle.world_api.specs.declared.hash.Hash.{Hash}
 use Rattle.rule_graph.specs.Graphs.{RuleGraph}
 use Rattle.sign_store.specs.Tables.{Map}
+use Rattle.task_plan.specs.States.{state_of}
 use Rattle.task_plan.specs.Orders.{is_among}
+use Rattle.task_plan.specs.declared.states.RuleState.TheVariants.{Unneeded}
 use Rattle.task_plan.specs.Plans.{Planned}
 use Rattle.task_plan.specs.Watched.{IsFinished}
 use Rattle.task_plan.proofs.ReachedLemmas.{first, later, none_among}
@@ -30,10 +32,11 @@ use Rattle.build_files.specs.Marked.{is_marked}
 use Rattle.build_files.specs.declared.inputs.Inputs.{Inputs}
 use Rattle.plan_means.proofs.Taking.{has_number}
 use Rattle.scons_report.specs.Dry.{IsListed, AreThose, none_left, IsDryList, AreGone, begun_past, ListsDry, rules_with}
-use Rattle.scons_report.specs.Overs.{IsOutset, IsOver, IsPlannedOrder, IsReadyToList, was_listed, AreListed}
+use Rattle.scons_report.specs.Overs.{IsOutset, IsOver, IsPlannedOrder, needs_over, IsReadyToList, was_listed, AreListed}
 use Rattle.scons_report.specs.declared.dry.Listed.{Listed}
 use Rattle.scons_report.proofs.Going.{past_same}
 use Rattle.scons_report.proofs.Finished.{with_same, order_is, no_loop}
+use Rattle.scons_report.proofs.Fronting.{in_front, order_planned}
 use Rattle.scons_report.proofs.Judging.{stamp_same}
 use Rattle.scons_report.proofs.Leftover.{copied_same, leftover_unmade, one_target}
 
@@ -137,3 +140,28 @@ module _ (b : Begun) (requested : List NodeId) (stamps : Stamps) (m : Records) (
       those = are.those;
     };
   }
+
+-- the rule at a place of the order is needed, and behind all that it needs
+module _ (b : Begun) (requested : List NodeId) (stamps : Stamps) (g : RuleGraph) (inputs : Inputs) (plan : Planned) (around : Around)
+    (is : IsReadyToList b requested b.tree stamps g inputs plan around) (order : List RuleId) (o : IsPlannedOrder g plan requested order)
+    (place : ℕ) (rule : RuleId) (lt : place < length order) (item : rule ≡ get_or order place rule) where
+  at_place : slice_get order place ≡ Some rule
+  at_place = slice_get-get_or order place rule lt ∙ ap Some (sym item)
+
+  pub is_needed : state_of plan.states rule.0 ≢ Unneeded
+  is_needed = order_planned b requested b.tree g inputs plan around is.over is.finished order o rule.0 (there order place rule at_place)
+
+  pub is_behind : (other : ℕ) → is_among other (needs_over g plan rule.0) ≡ true → is_among other (take place order) ≡ true
+  is_behind =
+      in_front b requested b.tree g inputs plan around is.over is.finished order o (take place order) rule (drop (suc place) order)
+      (parts order place rule at_place) is_needed
+
+  pub one_more : take place order ++ rule ∷ [] ≡ take (place + 1) order
+  one_more = sym (ap (λ n. take n order) next ∙ take_more order place rule at_place)
+    where
+      next : place + 1 ≡ suc place
+      next = omega arith
+
+-- all rules
+pub taken_all : (order : List RuleId) (place : ℕ) → (length order ≤ place) → take place order ≡ order
+taken_all order place le = take_all place order le

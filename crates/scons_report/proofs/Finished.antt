@@ -51,8 +51,8 @@ use Rattle.scons_report.proofs.Going.{the, lists, settled_fresh}
 module _ (rule_of : RuleOf) (found : Found) where
   -- what they need stands there, too
   pub closed : {rules : List Rule} {r q : Rule} → AreInOrder rule_of found rules → Among r rules → Needs rule_of found r q → Among q rules
-  closed is here n = there (is.1.0 _ n)
-  closed is (there m) n = there (closed is.1.1 m n)
+  closed is here n = there (is.1 _ n)
+  closed is (there m) n = there (closed is.2 m n)
 
   through_closed : {rules : List Rule} {r q : Rule} → AreInOrder rule_of found rules → Among r rules → NeedsThrough rule_of found r q → Among q rules
   through_closed is m (directly n) = closed is m n
@@ -60,13 +60,13 @@ module _ (rule_of : RuleOf) (found : Found) where
 
   -- what the first needs stands behind it
   through_behind : {rules : List Rule} {r q : Rule} → AreInOrder rule_of found (r ∷ rules) → NeedsThrough rule_of found r q → Among q rules
-  through_behind is (directly n) = is.1.0 _ n
-  through_behind is (through x n more) = through_closed is.1.1 (is.1.0 x n) more
+  through_behind is (directly n) = is.1 _ n
+  through_behind is (through x n more) = through_closed is.2 (is.1 x n) more
 
   -- none needs itself
   pub none_loops : {rules : List Rule} {r : Rule} → AreInOrder rule_of found rules → Among r rules → NeedsThrough rule_of found r r → ⊥
   none_loops is here t = is.0 (through_behind is t)
-  none_loops is (there m) t = none_loops is.1.1 m t
+  none_loops is (there m) t = none_loops is.2 m t
 
 -- ---- rules by their numbers
 
@@ -87,7 +87,8 @@ makers_here g nodes m (Some k) e = first m (record { 0 = k }) (makers_in g nodes
 
 pub makers_have : (g : RuleGraph) (nodes : List NodeId) (n : NodeId) (m : ℕ) → Among n nodes → rule_of g.rules n.0 ≡ Some m →
     is_among m (makers_in g nodes) ≡ true
-makers_have g (n ∷ nodes) n m here e = makers_here g nodes m (rule_of g.rules n.0) e
+makers_have g [] n m k e = elim k [ ]
+makers_have g (x ∷ nodes) _ m here e = makers_here g nodes m (rule_of g.rules x.0) e
 makers_have g (x ∷ nodes) n m (there k) e = makers_more x g nodes m (rule_of g.rules x.0) (makers_have g nodes n m k e)
 
 module _ (b : Begun) (requested : List NodeId) (t : Tree) (g : RuleGraph) (inputs : Inputs) (plan : Planned) (around : Around)
@@ -98,8 +99,8 @@ module _ (b : Begun) (requested : List NodeId) (t : Tree) (g : RuleGraph) (input
   abbrev pub found : Found
   found = found_in s (in_tree t)
 
-  abbrev Made : List Step
-  Made = all_fresh is.made
+  abbrev Past : List Step
+  Past = all_fresh is.made
 
   abbrev pub kn : (number : ℕ) → state_of plan.states number ≢ Unneeded → Knows b g plan number
   kn number needed = the b requested t g inputs plan around is number needed
@@ -108,7 +109,7 @@ module _ (b : Begun) (requested : List NodeId) (t : Tree) (g : RuleGraph) (input
   pub is_made_rule : (number : ℕ) (needed : state_of plan.states number ≢ Unneeded) → Among (kn number needed).rule is.made
   is_made_rule number needed =
       among_same (settled_fresh is.made)
-      (subst (λ (o : RuleState). IsAt Made (kn number needed).rule o) (finished.each number needed)
+      (subst (λ (o : RuleState). IsAt Past (kn number needed).rule o) (finished.each number needed)
       (is.ties.states number (kn number needed).rule (kn number needed).numbered))
 
   all_scanned : (number : ℕ) (needed : state_of plan.states number ≢ Unneeded) (n : NodeId) → stands (kn number needed).kept.files n ≡ true →
@@ -139,7 +140,7 @@ module _ (b : Begun) (requested : List NodeId) (t : Tree) (g : RuleGraph) (input
       IsFrom g plan.states n.0 o → is_met_from o ≡ true → IsLookedFor b g n
   need_looked number needed n Unmet h e from met none = true_false (sym met)
   need_looked number needed n Source h e from met none =
-      is.ties.sources number n needed (need_at b g requested t Made plan is.now is.ties number needed n h) e
+      is.ties.sources number n needed (need_at b g requested t Past plan is.now is.ties number needed n h) e
   need_looked number needed n (Made m) h e from met none = none_some (sym none ∙ from.0)
 
   maker_needed : (n : NodeId) (o : Origin) (m : ℕ) → IsFrom g plan.states n.0 o → is_met_from o ≡ true → rule_of g.rules n.0 ≡ Some m →
@@ -151,9 +152,9 @@ module _ (b : Begun) (requested : List NodeId) (t : Tree) (g : RuleGraph) (input
   pub need_met : (number : ℕ) (needed : state_of plan.states number ≢ Unneeded) (n : NodeId) →
       stands ((kn number needed).kept.required ++ (kn number needed).kept.deps) n ≡ true → IsMetNode n
   need_met number needed n h =
-      let met = needed_met b g requested t Made plan is.now is.ties number needed n h in
+      let met = needed_met b g requested t Past plan is.now is.ties number needed n h in
       record {
-        below = need_below b g requested t Made plan is.now is.ties number needed n h;
+        below = need_below b g requested t Past plan is.now is.ties number needed n h;
         looked = need_looked number needed n (origin_of plan.origins n.0) h refl (is.ties.plan_for.from.each n.0) met;
         needed = λ m e. maker_needed n (origin_of plan.origins n.0) m (is.ties.plan_for.from.each n.0) met e;
       }
@@ -168,7 +169,7 @@ module _ (b : Begun) (requested : List NodeId) (t : Tree) (g : RuleGraph) (input
   -- the rule of such a node's path
   pub path_rule : (n : NodeId) (m : ℕ) → n.0 < length g.nodes → rule_of g.rules n.0 ≡ Some m →
       s.rule_of (path_of g.nodes n) ≡ rule_numbered b g m
-  path_rule n m lt e = rule_made b g requested t Made plan is.now is.ties n m lt e
+  path_rule n m lt e = rule_made b g requested t Past plan is.now is.ties n m lt e
 
   -- a needed rule is the rule of its targets
   pub target_rule : (number : ℕ) (needed : state_of plan.states number ≢ Unneeded) (p : Path) → Among p (kn number needed).rule.targets →

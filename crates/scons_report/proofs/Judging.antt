@@ -1,6 +1,6 @@
 -- Whether a rule is due by the files around is whether it is so by the files as they are looked at.
 use Rattle.std.proofs.Common.{◌≡◌, ◌≢◌, ◌∙◌, ◌||◌, ℕ, Bool, true, false, List, [], ◌∷◌, ◌++◌, Option, Some, None, refl, sym, subst, ap, option_map}
-use Rattle.std.specs.Prelude.{Result, Ok, Err, OnOk, if◌then◌else◌}
+use Rattle.std.specs.Prelude.{Result, Ok, Err, OnOk, if◌then◌else◌, slice_set}
 use Rattle.std.specs.List.{list_any}
 use Rattle.std.specs.Str.{bytes_eq}
 use Rattle.scons_base.specs.declared.ids.NodeId.{NodeId}
@@ -25,11 +25,13 @@ use Rattle.build_model.proofs.Lists.{none_some, true_false, among_same}
 use Rattle.build_means.specs.Due.{is_due}
 use Rattle.build_means.specs.Grown.{Begun, begun_setting, rule_numbered}
 use Rattle.build_means.specs.Present.{record_over, IsPresent}
-use Rattle.build_means.specs.Records.{record_in}
+use Rattle.build_means.specs.Records.{record_in, HasOwnDigests}
 use Rattle.build_means.specs.Rules.{paths_of}
 use Rattle.build_files.specs.Kept.{past, stamp_past, AreTrue}
 use Rattle.build_files.specs.Marked.{KeepsMarks}
-use Rattle.build_files.specs.Presence.{AreStill}
+use Rattle.build_files.specs.Presence.{AreStill, IsPresentAs, IsPresentFor}
+use Rattle.build_files.specs.declared.record.Present.{Present}
+use Rattle.build_files.specs.declared.record.Present.TheVariants as shape
 use Rattle.build_files.specs.declared.inputs.Inputs.{Inputs}
 use Rattle.build_files.proofs.Marking.{over_same}
 use Rattle.plan_means.proofs.Knowing.{Knows, rule_made, stands_among}
@@ -41,7 +43,7 @@ use Rattle.scons_report.proofs.Finished.{kn, deps_are, target_rule}
 use Rattle.scons_report.proofs.Listing.{lists_next}
 
 -- stamps are as they were behind a look
-stamp_same : (gone : List Path) (old new : Around) → old.running ≡ [] → Asks old new → (path : Path) → stamp_past gone new path ≡ stamp_past gone old path
+pub stamp_same : (gone : List Path) (old new : Around) → old.running ≡ [] → Asks old new → (path : Path) → stamp_past gone new path ≡ stamp_past gone old path
 stamp_same gone old new idle asks path =
     ap (λ (c : Content). if list_any (bytes_eq path) gone then None else option_map (λ (bytes : List ℕ). new.stamps path) c)
     (asks.files path (none_runs old idle path))
@@ -127,10 +129,34 @@ module _ (b : Begun) (requested : List NodeId) (t : Tree) (stamps : Stamps) (g :
 
         -- so it is listed where it should be
         pub judged : {T E : Type 0} (front : List RuleId) → ((other : ℕ) → is_among other (needs_over g plan rule.0) ≡ true → is_among other front ≡ true) →
-            (listed after : Listed) → AreListed b t stamps m g front listed → (r : Result T E) →
-            OnOk r (Lists listed rule after (is_fed_by g listed deps || is_due k.rule new.tree (stamp_of new) m (record_in rec))) →
+            (listed after : Listed) → AreListed b t stamps m g front listed → (nodes : List NodeId) → nodes ≡ deps → (r : Result T E) →
+            OnOk r (Lists listed rule after (is_fed_by g listed nodes || is_due k.rule new.tree (stamp_of new) m (record_in rec))) →
             OnOk r (AreListed b t stamps m g (front ++ rule ∷ []) after)
-        judged front behind listed after are (Ok v) lists =
+        judged front behind listed after are nodes same (Ok v) lists =
             lists_next b requested t stamps m g inputs plan around is rule needed front behind listed are
-            (is_due k.rule new.tree (stamp_of new) m (record_in rec)) due_is lacks_none after _ refl lists
-        judged front behind listed after are (Err e) lists = tt
+            (is_due k.rule new.tree (stamp_of new) m (record_in rec)) due_is lacks_none after _ refl
+            (subst (λ (ns : List NodeId). Lists listed rule after (is_fed_by g listed ns || is_due k.rule new.tree (stamp_of new) m (record_in rec))) same lists)
+        judged front behind listed after are nodes same (Err e) lists = tt
+
+-- ---- whether it is listed
+
+pub not_fed_due : (fed found due : Bool) → false ≡ fed → found ≡ due → found ≡ (fed || due)
+not_fed_due fed found due none same = same ∙ ap (λ c. c || due) none
+
+lists_by : (old new : Listed) (rule : RuleId) (c due : Bool) → c ≡ due → Lists old rule new c → Lists old rule new due
+lists_by old new rule c due same lists = subst (λ (x : Bool). Lists old rule new x) same lists
+
+pub lists_yes : (old new : Listed) (rule : RuleId) (found due : Bool) → found ≡ due → found ≡ true →
+    new.is_listed.items ≡ slice_set old.is_listed.items rule.0 true → new.rules.items ≡ old.rules.items ++ rule ∷ [] → Lists old rule new due
+lists_yes old new rule found due same so marks rules = lists_by old new rule true due (sym so ∙ same) (marks, rules)
+
+pub lists_no : (old : Listed) (rule : RuleId) (found due : Bool) → found ≡ due → found ≡ false → Lists old rule old due
+lists_no old rule found due same never = lists_by old old rule false due (sym never ∙ same) refl
+
+-- what was read of a rule is this record
+pub present_is : (g : RuleGraph) (number : ℕ) (nodes deps : List NodeId) (gone : List Path) (around : Around) (b : Begun) (found : Present) (rec : Rec) →
+    nodes ≡ deps → found ≡ shape.Record rec → IsPresentFor g number nodes gone around b found → (r : Rule) → rule_numbered b g number ≡ Some r →
+    IsPresent b r (paths_of g deps) (past gone around.tree) (stamp_past gone around) rec × HasOwnDigests rec
+present_is g number nodes deps gone around b found rec list same is r e =
+    subst (λ (ns : List NodeId). IsPresentAs b g r ns (past gone around.tree) (stamp_past gone around) (shape.Record rec)) list
+    (subst (λ (x : Present). IsPresentAs b g r nodes (past gone around.tree) (stamp_past gone around) x) same (is r e))

@@ -1,5 +1,7 @@
 -- A leftover copy is no target: no rule makes it, and it isn't copied.
-use Rattle.std.proofs.Common.{◌≡◌, ◌<◌, ◌⊎◌, inl, inr, ⊎_elim, ◌∙◌, ◌||◌, ◌&&◌, not, ℕ, zero, suc, arith, Bool, true, false, List, [], ◌∷◌, Contains, length, Option, Some, None, refl, sym, subst, ap, lt-ltb, option_map}
+use Rattle.std.proofs.Common.{◌≡◌, ◌<◌, ◌⊎◌, inl, inr, ⊎_elim, ◌∙◌, ◌||◌, ◌&&◌, not, ℕ, zero, suc, arith, Bool, true, false, List, [], ◌∷◌, Contains, length, Option, Some, None, refl, sym, subst, ap, lt-ltb, option_map, ◌++◌, ◌+◌, take, get_or}
+use Rattle.std.proofs.lemmas.List.{take_more}
+use Rattle.std.proofs.lemmas.List.Folds.{list_any-append}
 use Rattle.std.specs.Prelude.{slice_get, nat_lt, is_some, if◌then◌else◌}
 use Rattle.std.specs.List.{list_any}
 use Rattle.std.specs.Option.{option_and_then}
@@ -21,7 +23,7 @@ use Rattle.build_model.proofs.Lists.{true_false, none_some}
 use Rattle.build_means.specs.Copies as means
 use Rattle.build_means.specs.Grown.{begun_setting}
 use Rattle.build_means.specs.Laws.{or_copied}
-use Rattle.build_means.specs.Rules.{IsReading, rule_in, rule_with}
+use Rattle.build_means.specs.Rules.{IsReading, rule_in, rule_with, is_declared as declared_there}
 use Rattle.build_means.proofs.Readings.{rule_is}
 use Rattle.build_files.specs.Kept.{past}
 use Rattle.build_files.specs.Leftovers.{is_made, has_rule, has_copies, is_copied, is_source, is_declared, declared_for, is_before, source_among, copied_from, stands, IsLeftover}
@@ -31,7 +33,8 @@ use Rattle.sign_store.specs.Copies.{IsCopyIn}
 use Rattle.deciders.specs.declared.recorded.Rec.{Rec}
 use Rattle.world_api.specs.Calls.{Asks}
 use Rattle.scons_report.specs.Dry.{begun_past, IsLeftoverAt, AreGone}
-use Rattle.scons_report.specs.Overs.{AreTargetsOf}
+use Rattle.indexmap.specs.IndexSet.{insert_key}
+use Rattle.scons_report.specs.Overs.{AreTargetsOf, among_paths}
 
 copies_same : (o : Option Variant) → has_copies o ≡ means.has_copies o
 copies_same (Some variant) = refl
@@ -66,8 +69,8 @@ module _ (g : RuleGraph) (hash : Hash) (around : Around) (gone : List Path) wher
       by (Some k) e = at k (slice_get g.rules k) refl e
 
   source_by : (source : Path) (d f : Bool) (c : Bool) → means.is_copied g source ≡ c →
-      (means.is_declared g source || (not c && is_some (tree source))) ≡ true → is_source g (length g.rules) around source ≡ true
-  source_by source d f c copied e = by (means.is_declared g source) refl c copied e
+      (declared_there g source || (not c && is_some (tree source))) ≡ true → is_source g (length g.rules) around source ≡ true
+  source_by source d f c copied e = by (declared_there g source) refl c copied e
     where
       second : (a b : Bool) → b ≡ true → (a || b) ≡ true
       second true b h = refl
@@ -77,7 +80,7 @@ module _ (g : RuleGraph) (hash : Hash) (around : Around) (gone : List Path) wher
       first true b h = refl
       first false b h = true_false (sym h)
 
-      by : (x : Bool) → means.is_declared g source ≡ x → (c : Bool) → means.is_copied g source ≡ c → (x || (not c && is_some (tree source))) ≡ true →
+      by : (x : Bool) → declared_there g source ≡ x → (c : Bool) → means.is_copied g source ≡ c → (x || (not c && is_some (tree source))) ≡ true →
           is_source g (length g.rules) around source ≡ true
       by true is c copied e = first (is_declared g (length g.rules) source) (not (is_copied g source) && stands around source)
           (declared_by (number_of g.nodes source) is)
@@ -129,7 +132,7 @@ module _ (g : RuleGraph) (hash : Hash) (around : Around) (gone : List Path) wher
 any_by : {X : Type 0} (test : X → Bool) (x : X) (xs : List X) (c : Bool) → test x ≡ c → (c || list_any test xs) ≡ true →
     (list_any test xs ≡ true → (y : X) × Contains xs y × (test y ≡ true)) → (y : X) × Contains (x ∷ xs) y × (test y ≡ true)
 any_by test x xs true e h next = (x, (zero, omega arith, refl), e)
-any_by test x xs false e h next = let f = next h in (f.0, (suc f.1.0.0, (let lt = f.1.0.1.0 in omega (arith, lt)), f.1.0.1.1), f.1.1)
+any_by test x xs false e h next = let f = next h in (f.0, (suc f.1.0, (let lt = f.1.1 in omega (arith, lt)), f.1.2), f.2)
 
 -- one of which it is so stands among them
 any_stands : {X : Type 0} (test : X → Bool) (xs : List X) → list_any test xs ≡ true → (y : X) × Contains xs y × (test y ≡ true)
@@ -161,11 +164,55 @@ pub gone_are : (g : RuleGraph) (kept : Map) (old new : Around) (left : List Rec)
 gone_are g kept old new left gone idle asks are targets = record {
   each = λ path h.
       let r = any_stands (λ rec. list_any (bytes_eq path) rec.targets) left (sym (targets path) ∙ h) in
-      let p = any_stands (bytes_eq path) r.0.targets r.1.1 in
-      at_old g kept old new r.0 idle asks (are.each r.0 r.1.0) path
-      (subst (λ (q : Path). Contains r.0.targets q) (sym ((bytes_eq-Decides path p.0).0 p.1.1)) p.1.0);
+      let p = any_stands (bytes_eq path) r.0.targets r.2 in
+      at_old g kept old new r.0 idle asks (are.each r.0 r.1) path
+      (subst (λ (q : Path). Contains r.0.targets q) (sym ((bytes_eq-Decides path p.0).0 p.2)) p.1);
   all = λ path is.
       targets path
       ∙ stands_any (λ rec. list_any (bytes_eq path) rec.targets) left is.rec (are.all is.rec is.copied (left_on g old new is.rec idle asks is.left))
       (stands_any (bytes_eq path) is.rec.targets path is.stands (bytes_self path));
 }
+
+-- ---- paths that are put into a set
+
+-- one more is among others
+ends_with : (paths : List Path) (path p : Path) → list_any (bytes_eq p) (paths ++ path ∷ []) ≡ (list_any (bytes_eq p) paths || bytes_eq p path)
+ends_with paths path p =
+    list_any-append (bytes_eq p) paths (path ∷ []) ∙ ap (λ c. list_any (bytes_eq p) paths || c) (or_none (bytes_eq p path))
+  where
+    or_none : (c : Bool) → (c || false) ≡ c
+    or_none true = refl
+    or_none false = refl
+
+inserted : (paths : List Path) (path p : Path) → list_any (bytes_eq p) (insert_key bytes_eq paths path) ≡ (list_any (bytes_eq p) paths || bytes_eq p path)
+inserted paths path p = by (list_any (bytes_eq path) paths) refl
+  where
+    there : (c : Bool) → bytes_eq p path ≡ c → list_any (bytes_eq path) paths ≡ true → list_any (bytes_eq p) paths ≡ (list_any (bytes_eq p) paths || c)
+    there false e h = sym (or_none (list_any (bytes_eq p) paths))
+      where
+        or_none : (c : Bool) → (c || false) ≡ c
+        or_none true = refl
+        or_none false = refl
+    there true e h =
+        let same = (bytes_eq-Decides p path).0 e in
+        let among = ap (λ q. list_any (bytes_eq q) paths) same ∙ h in
+        among ∙ sym (or_later (list_any (bytes_eq p) paths) true refl)
+
+    by : (c : Bool) → list_any (bytes_eq path) paths ≡ c → list_any (bytes_eq p) (if c then paths else paths ++ path ∷ []) ≡ (list_any (bytes_eq p) paths || bytes_eq p path)
+    by true e = there (bytes_eq p path) refl e
+    by false e = ends_with paths path p
+
+or_moved : (a b c : Bool) → ((a || b) || c) ≡ (a || (b || c))
+or_moved true b c = refl
+or_moved false b c = refl
+
+pub targets_more : (first keys new targets items : List Path) (i : ℕ) (item copied : Path) → items ≡ targets → i < length items → item ≡ get_or items i item →
+    copied ≡ item → new ≡ insert_key bytes_eq keys copied → ((p : Path) → among_paths keys p ≡ (among_paths first p || among_paths (take i targets) p)) →
+    (p : Path) → among_paths new p ≡ (among_paths first p || among_paths (take (i + 1) targets) p)
+targets_more first keys new targets items i item copied same lt at copy insert so_far p =
+    let more : take (i + 1) targets ≡ take i targets ++ item ∷ [] =
+    ap (take (i + 1)) (sym same) ∙ take_more items i item lt ∙ ap (λ (q : Path). take i items ++ q ∷ []) (sym at) ∙ ap (λ (l : List Path). take i l ++ item ∷ []) same in
+    ap (list_any (bytes_eq p)) insert ∙ inserted keys copied p ∙ ap (λ c. c || bytes_eq p copied) (so_far p)
+    ∙ ap (λ (q : Path). (among_paths first p || among_paths (take i targets) p) || bytes_eq p q) copy
+    ∙ or_moved (among_paths first p) (among_paths (take i targets) p) (bytes_eq p item)
+    ∙ ap (λ c. among_paths first p || c) (sym (ap (list_any (bytes_eq p)) more ∙ ends_with (take i targets) item p))

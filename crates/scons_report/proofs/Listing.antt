@@ -44,9 +44,9 @@ module _ {IsSo : Rule → Type 0} where
   those_more (leaves n a) so = leaves n (those_more a so)
 
   pub those_same : {rules those : List Rule} {r : Rule} → AreThose IsSo rules those → (IsSo r → ⊥) → AreThose IsSo (rules ++ r ∷ []) those
-  those_same none_left no = leaves no none_left
-  those_same (takes s a) no = takes s (those_same a no)
-  those_same (leaves n a) no = leaves n (those_same a no)
+  those_same none_left never = leaves never none_left
+  those_same (takes s a) never = takes s (those_same a never)
+  those_same (leaves n a) never = leaves n (those_same a never)
 
 or_true : (a b : Bool) → (a || b) ≡ true → (a ≡ true) ⊎ (b ≡ true)
 or_true true b e = inl refl
@@ -80,7 +80,8 @@ any_later true b e = refl
 any_later false b e = e
 
 any_one : (test : NodeId → Bool) (nodes : List NodeId) (n : NodeId) → Among n nodes → test n ≡ true → list_any test nodes ≡ true
-any_one test (n ∷ nodes) n here e = any_here (test n) (list_any test nodes) e
+any_one test [] n k e = elim k [ ]
+any_one test (x ∷ nodes) _ here e = any_here (test x) (list_any test nodes) e
 any_one test (x ∷ nodes) n (there m) e = any_later (test x) (list_any test nodes) (any_one test nodes n m e)
 
 -- ---- numbers in front of a rule

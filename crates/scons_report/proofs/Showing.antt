@@ -1,5 +1,6 @@
 -- What stands below a node by a plan that was gone over to its end is what its path is made of.
-use Rattle.std.proofs.Common.{◌≡◌, ◌≢◌, ◌∙◌, ◌++◌, ℕ, Bool, true, false, subst, List, [], ◌∷◌, Option, Some, None, refl, sym, ap}
+use Rattle.std.proofs.Common.{◌≡◌, ◌≢◌, ◌∙◌, ◌++◌, ℕ, Bool, true, false, subst, List, [], ◌∷◌, Option, Some, None, refl, sym, ap, inl, inr, ◌⊎◌}
+use Rattle.std.specs.Prelude.{Result, Ok, Err, IsErrAnd}
 use Rattle.scons_base.specs.declared.ids.NodeId.{NodeId}
 use Rattle.rule_graph.specs.Graphs.{RuleGraph, path_of}
 use Rattle.rule_graph.specs.Rules.{rule_of}
@@ -24,9 +25,14 @@ use Rattle.build_means.specs.Rules.{rules_in}
 use Rattle.build_files.specs.Beginnings.{BeginsBehind}
 use Rattle.build_files.specs.Kept.{past, AreTrue}
 use Rattle.build_files.specs.Marked.{is_marked}
-use Rattle.scons_report.specs.Built.{IsBehind, made_by, made_of, IsShown, on_top, below, ShowsMade, IsShownBy}
+use Rattle.world_api.specs.Printed.{SinkMeaning}
+use Rattle.task_plan.specs.Plans.{IsIdle}
+use Rattle.scons_report.specs.declared.tree_end.TreeEnd.{TreeEnd}
+use Rattle.scons_report.specs.Asked.{children_asked}
+use Rattle.scons_report.specs.Walks.{PrintsTree}
+use Rattle.scons_report.specs.Built.{ShownTrees, IsBehind, made_by, made_of, IsShown, on_top, below, ShowsMade, IsShownBy}
 use Rattle.scons_report.specs.Overs.{IsOutset, IsOver}
-use Rattle.scons_report.specs.Trees.{children_of, deps_at}
+use Rattle.scons_report.specs.Trees.{children_of, deps_at, shown_in, tree_text}
 use Rattle.scons_report.proofs.Finished.{kn, s, deps_are, IsMetNode, need_met, asked_met, path_rule, no_loop}
 
 module _ (b : Begun) (requested : List NodeId) (t : Tree) (g : RuleGraph) (inputs : Inputs) (plan : Planned) (around : Around)
@@ -131,3 +137,17 @@ outset_behind b g inputs around truth unmarked idle none = record {
   idle = idle;
   files = λ path. ap (λ (keys : List Path). past keys around.tree path) none;
 }
+
+-- what is printed, or why nothing is
+pub shown_trees : {O T : Type 0} (m : SinkMeaning O) (b : Begun) (t : Tree) (g : RuleGraph) (word : List ℕ) (nodes : List NodeId) (is_node : Bool) (old new : O)
+    (plan : Planned) → IsShownBy b t g nodes plan → (r : Result T TreeEnd) → IsIdle plan →
+    PrintsTree m (tree_text (shown_in g plan) word (children_asked g plan is_node nodes)) old new r →
+    ShownTrees {T = T} m b t g word nodes is_node old new r
+shown_trees m b t g word nodes is_node old new plan shown (Ok v) idle prints = record { tree = record { plan = plan; idle = idle; prints = prints }; shown = shown }
+shown_trees m b t g word nodes is_node old new plan shown (Err e) idle prints =
+    inl (record { tree = record { plan = plan; idle = idle; prints = prints }; shown = shown })
+
+pub shown_none : {O T : Type 0} (P : TreeEnd → Type 0) (m : SinkMeaning O) (b : Begun) (t : Tree) (g : RuleGraph) (word : List ℕ) (nodes : List NodeId) (is_node : Bool)
+    (old : O) (r : Result T TreeEnd) → IsErrAnd r P → ShownTrees {T = T} m b t g word nodes is_node old old r
+shown_none P m b t g word nodes is_node old (Ok v) is = absurd is
+shown_none P m b t g word nodes is_node old (Err e) is = inr refl

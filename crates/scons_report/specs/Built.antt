@@ -13,7 +13,7 @@ use Rattle.build_model.specs.Needs.{Needed, NeedsThrough}
 use Rattle.build_means.specs.Grown.{Begun, begun_setting, IsGrown}
 use Rattle.build_means.specs.Rules.{IsReading, paths_of}
 use Rattle.build_files.specs.Leftovers.{is_made}
-use Rattle.task_plan.specs.Plans.{Planned, IsIdle}
+use Rattle.task_plan.specs.Plans.{Planned}
 use Rattle.scons_report.specs.declared.tree_end.TreeEnd.{TreeEnd}
 use Rattle.scons_report.specs.Asked.{TreeOf}
 use Rattle.scons_report.specs.Trees.{children_of}
@@ -71,5 +71,5 @@ ShowsBuilds {T = T} m s g h declared word nodes is_node world after old new resu
 
 -- A plan of these nodes shows what a build goes by, whatever build it stands behind.
 abbrev pub Plans : {W : Type 0} → Meaning W → RuleGraph → ℕ → List NodeId → W → RuleGraph → W → Planned → Type 0
-Plans m g declared nodes world h after plan = IsIdle plan × (m.tells after → are_below (length g.nodes) nodes ≡ true → (b : Begun) →
-    IsBehind b g declared (m.around world) → IsShownBy b (m.around world).tree h nodes plan)
+Plans m g declared nodes world h after plan = m.tells after → are_below (length g.nodes) nodes ≡ true → (b : Begun) →
+    IsBehind b g declared (m.around world) → IsShownBy b (m.around world).tree h nodes plan

@@ -53,7 +53,7 @@ pub fn dry_list<W: World>(
     plan.finishes(graph);
     match cycle_of(alloc, graph, &plan) {
         Some(end) => Err(end),
-        None => Ok(Listing::new(rules)),
+        None => Ok(rules),
     }
 }
 
@@ -104,7 +104,7 @@ fn list_all<W: World>(
     view: &View,
     plan: &Plan,
     order: &[RuleId],
-) -> Result<Vec<RuleId>, ListEnd>
+) -> Result<Listing<RuleId>, ListEnd>
     ensures looks { Looks W.meaning world.old world.new }
     ensures cause { HasListCause (W.meaning.counts world.old) (W.meaning.counts world.new) result }
     ensures lists { ListsAll W.meaning graph.now (map_of_view view.now) inputs.old plan.now world.old world.new order.now result }
@@ -117,7 +117,7 @@ fn list_all<W: World>(
         look_at(world, graph, inputs, view, plan, *rule, &mut listed)?;
     }
     let Listed { rules, .. } = listed;
-    Ok(rules)
+    Ok(Listing::new(rules))
 }
 
 /// Lists a rule where it would be started.

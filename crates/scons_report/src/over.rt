@@ -6,7 +6,7 @@ ghost use Rattle.scons_base.specs.declared.ids.NodeId.{NodeId};
 ghost use Rattle.build_files.specs.declared.inputs.Inputs.{Inputs};
 ghost use Rattle.scons_report.specs.Causes.{HasListCause};
 ghost use Rattle.scons_report.specs.Overs.{GoesOver, IsOver, StaysOver};
-ghost use Rattle.task_plan.specs.Plans.{IsDecidedNext, IsScannedNext};
+ghost use Rattle.task_plan.specs.Plans.{IsDecidedNext, IsIdle, IsScannedNext};
 ghost use Rattle.task_plan.specs.Watched.{IsComplete, IsStill};
 ghost use Rattle.world_api.specs.Around.{Around};
 ghost use Rattle.world_api.specs.Looks.{Looks};
@@ -30,6 +30,7 @@ pub(crate) fn plan_over<W: World>(
     ensures looks { Looks W.meaning world.old world.new }
     ensures cause { HasListCause (W.meaning.counts world.old) (W.meaning.counts world.new) result }
     ensures gone { inputs.new.gone ≡ inputs.old.gone }
+    ensures idle { IfOk result IsIdle }
     ensures over { IfOk result (GoesOver W.meaning graph.old inputs.old nodes.now world.old graph.new inputs.new world.new) }
 {
     inputs.add_copies(world, graph, nodes)?;
@@ -51,6 +52,7 @@ fn scan_all<W: World>(
     ensures cause { HasListCause (W.meaning.counts world.old) (W.meaning.counts world.new) result }
     ensures gone { inputs.new.gone ≡ inputs.old.gone }
     ensures over { StaysOver W.meaning graph.old inputs.old plan.old world.old graph.new inputs.new plan.new world.new result }
+    ensures idle { OnOk result (IsIdle plan.new) }
     ensures still { OnOk result (plan.new.halted ≡ false → IsComplete plan.new → IsStill plan.new) }
 {
     for _turn in 0..u64::MAX {

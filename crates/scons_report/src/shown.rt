@@ -3,6 +3,7 @@ ghost use Rattle.std.specs.Prelude.{◌≡◌, IfOk};
 ghost use Rattle.scons_report.specs.Asked.{children_asked, HasTreeCause, TreesOf};
 ghost use Rattle.scons_report.specs.Built.{Plans, ShowsBuilds};
 ghost use Rattle.scons_report.specs.Causes.{HasListCause};
+ghost use Rattle.task_plan.specs.Plans.{IsIdle};
 ghost use Rattle.world_api.specs.Looks.{Looks};
 
 use crate::dry::cycle_of;
@@ -66,6 +67,7 @@ fn plan_of<W: World>(
 ) -> Result<Plan, ListEnd>
     ensures looks { Looks W.meaning world.old world.new }
     ensures cause { HasListCause (W.meaning.counts world.old) (W.meaning.counts world.new) result }
+    ensures rests { IfOk result IsIdle }
     ensures plans { IfOk result (Plans W.meaning graph.old declared nodes.now world.old graph.new world.new) }
 {
     graph.laws();
