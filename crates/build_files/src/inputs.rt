@@ -5,15 +5,17 @@ ghost use Rattle.std.specs.Option.{option_map};
 ghost use Rattle.std.specs.Str.{bytes_eq};
 ghost use Rattle.indexmap.specs.IndexMap.{get};
 ghost use Rattle.deciders.specs.Digests.{digest_of as digest_for};
-ghost use Rattle.build_files.specs.Beginnings.{Begins};
+ghost use Rattle.build_files.specs.Beginnings.{Begins, BeginsBehind};
 ghost use Rattle.build_files.specs.Causes.{HasLookCause};
 ghost use Rattle.build_files.specs.Reading.{ReadsOnly};
-ghost use Rattle.build_files.specs.Kept.{past, same_scan, stamp_past as stamp_for, AreTrue, IsStill, IsUnmade, IsUnread, StaysTrue, SameGone, KeepsContent};
+ghost use Rattle.build_files.specs.Kept.{past, same_scan, stamp_past as stamp_for, AreFound, AreTrue, IsStill, IsUnmade, IsUnread, StaysTrue, SameGone, KeepsContent};
 ghost use Rattle.build_files.specs.Leftovers.{stands};
 ghost use Rattle.build_files.specs.Marked.{is_marked, KeepsMarks};
 ghost use Rattle.build_files.specs.Seen.{seen_at};
 ghost use Rattle.build_files.specs.declared.includes.Scan.{Scan};
 ghost use Rattle.build_means.specs.Grown.{Begun};
+ghost use Rattle.build_model.specs.Rules.{Path};
+ghost use Rattle.rule_graph.specs.Graphs.{RuleGraph};
 ghost use Rattle.world_api.specs.Around.{Around};
 ghost use Rattle.world_api.specs.Looks.{Looks};
 ghost use Rattle.world_api.specs.Reads.{stamp_of};
@@ -71,6 +73,34 @@ impl Inputs {
         ensures unmarked { (number : ℕ) → is_marked result number ≡ false }
         ensures gone { result.gone.keys ≡ gone.keys }
     {
+        Inputs::begun(alloc, hash, graph.rules(), gone)
+    }
+
+    /// The files of a build over a graph whose first so many rules are the declared ones. Those behind them copy files into
+    /// variant directories, as a build before added them.
+    pub fn over(alloc: Global, hash: Hash, _graph: &Graph, declared: u32) -> Inputs
+        ensures truth { (b : Begun) (around : Around) → BeginsBehind b _graph.now declared hash around → AreTrue b _graph.now result around }
+        ensures unread { (node : ℕ) → IsUnread (seen_at result.files.seen.items node) }
+        ensures unscanned { (scan : Scan) → get same_scan result.found.files scan ≡ None }
+        ensures unmarked { (number : ℕ) → is_marked result number ≡ false }
+        ensures gone { result.gone.keys ≡ [] }
+        ensures declared { result.declared ≡ declared }
+    {
+        let gone = IndexSet::new(alloc);
+        Inputs::begun(alloc, hash, declared, gone)
+    }
+
+    /// The files of a build with so many declared rules that looks past these. Nothing is kept of any yet.
+    fn begun(alloc: Global, hash: Hash, declared: u32, gone: IndexSet<PathText>) -> Inputs
+        ensures files { result.files.seen.items ≡ [] }
+        ensures unknown { result.unknown.keys ≡ [] }
+        ensures gone { result.gone.keys ≡ gone.keys }
+        ensures found { (b : Begun) (g : RuleGraph) (gone : List Path) (around : Around) → AreFound b g gone around result.found }
+        ensures unscanned { (scan : Scan) → get same_scan result.found.files scan ≡ None }
+        ensures looked { result.looked_at.items ≡ [] }
+        ensures declared { result.declared ≡ declared }
+        ensures hash { result.hash ≡ hash }
+    {
         let files = SeenFiles::new(alloc);
         let unknown = IndexSet::new(alloc);
         let found = Found::new(alloc);
@@ -80,24 +110,10 @@ impl Inputs {
             gone,
             found,
             looked_at: Vec::new(alloc),
-            declared: graph.rules(),
+            declared,
             hash,
             alloc,
         }
-    }
-
-    /// The files of a build over a graph whose first so many rules are the declared ones. Those behind them copy files into
-    /// variant directories, as a build before added them.
-    pub fn over(alloc: Global, hash: Hash, graph: &Graph, declared: u32) -> Inputs
-        ensures unread { (node : ℕ) → IsUnread (seen_at result.files.seen.items node) }
-        ensures unscanned { (scan : Scan) → get same_scan result.found.files scan ≡ None }
-        ensures unmarked { (number : ℕ) → is_marked result number ≡ false }
-        ensures gone { result.gone.keys ≡ [] }
-        ensures declared { result.declared ≡ declared }
-    {
-        let mut inputs = Inputs::new(alloc, hash, graph);
-        inputs.declared = declared;
-        inputs
     }
 
     /// Whether a file stands at the path of a node that no rule makes.

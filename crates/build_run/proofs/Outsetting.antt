@@ -1,7 +1,5 @@
 -- A build that has begun to look has set out.
-use Rattle.std.proofs.Common.{arith, ◌≡◌, ◌∙◌, ◌<◌, ◌≤◌, ℕ, true, List, [], ◌∷◌, ◌++◌, length, length-append, Option, Some, None, refl, sym, subst, ap, ltb-true}
-use Rattle.std.specs.Prelude.{nat_lt}
-use Rattle.std.proofs.lemmas.Bool.{and_parts, and_from, lt-ltb}
+use Rattle.std.proofs.Common.{◌≡◌, ◌∙◌, ◌≤◌, ℕ, true, List, [], length, Option, Some, None, refl, sym, subst, ap}
 use Rattle.std.specs.Global.{Vec}
 use Rattle.indexmap.specs.IndexMap.{get}
 use Rattle.scons_base.specs.declared.ids.NodeId.{NodeId}
@@ -28,22 +26,9 @@ use Rattle.plan_means.specs.Beginning.{AreLookedFor, IsLoaded}
 use Rattle.plan_means.specs.Planning.{IsGraphNow}
 use Rattle.turn_means.specs.Standing.{Outset, begun_at}
 use Rattle.turn_means.proofs.Looked.{sought_are_looked_for}
+use Rattle.scons_report.proofs.Found.{below_grown}
 use Rattle.build_run.specs.Outsets.{IsBegunBy, SetsOut, SetsOutOn}
 use Rattle.build_run.specs.declared.site.Run.{Run}
-
--- more nodes
-below_more : (m n : ℕ) (nodes : List NodeId) → m ≤ n → are_below m nodes ≡ true → are_below n nodes ≡ true
-below_more m n [] l e = refl
-below_more m n (x ∷ nodes) l e =
-    let both = and_parts (nat_lt x.0 m) (are_below m nodes) e in
-    let first : x.0 < m = ltb-true x.0 m both.0 in
-    and_from (nat_lt x.0 n) (are_below n nodes) (lt-ltb x.0 n (omega arith)) (below_more m n nodes l both.1)
-
-below_grown : (g h : RuleGraph) (nodes : List NodeId) → GrowsTo g h → are_below (length g.nodes) nodes ≡ true →
-    are_below (length h.nodes) nodes ≡ true
-below_grown g h nodes grows e =
-    let more : length h.nodes ≡ length (g.nodes ++ grows.more) = ap length grows.nodes in
-    below_more (length g.nodes) (length h.nodes) nodes (omega (arith, more, length-append g.nodes grows.more)) e
 
 none_among : (node : ℕ) (file : NodeId) → Among file [] → file.0 ≡ node → ⊥
 none_among node file m e = elim m [ ]

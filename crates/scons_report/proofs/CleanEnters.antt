@@ -84,3 +84,10 @@ module _ (g : RuleGraph) where
       entered_named r old required libs depends sources (f ∙ ap (λ n. with_entered old (makers_in g n)) a) (h ∙ ap (λ n. with_entered required (makers_in g n)) b)
       (k ∙ ap (λ n. with_entered libs (makers_in g n)) c) (last ∙ ap (λ n. with_entered depends (makers_in g n)) e)
   entered_last r q l d s old required libs depends sources (Err refused) a b c e f h k last = tt
+
+  -- the rules of nodes before others, where the last call may fail
+  pub entered_two : (front rest f r : List NodeId) (old mid new : List Step) (result : Result (Unit {0}) Memory) → f ≡ front → r ≡ rest
+      → mid ≡ with_entered old (makers_in g r) → OnOk result (new ≡ with_entered mid (makers_in g f)) → OnOk result (new ≡ with_entered old (makers_in g (front ++ rest)))
+  entered_two front rest f r old mid new (Ok done) a b e last =
+      entered_before front rest old mid new (e ∙ ap (λ n. with_entered old (makers_in g n)) b) (last ∙ ap (λ n. with_entered mid (makers_in g n)) a)
+  entered_two front rest f r old mid new (Err refused) a b e last = tt

@@ -1,6 +1,6 @@
 -- Looks one after the other, and what their ends stand for.
 use Rattle.std.proofs.Common.{◌≡◌, sym, subst}
-use Rattle.std.specs.Prelude.{Result, Ok, Err, IsErrAnd}
+use Rattle.std.specs.Prelude.{Result, Ok, Err, IsErrAnd, OnOk}
 use Rattle.world_api.specs.Counts.{Counts}
 use Rattle.rule_graph.specs.declared.build_fault.BuildFault.{BuildFault}
 use Rattle.rule_graph.specs.declared.build_fault.BuildFault.TheVariants as fault
@@ -46,3 +46,8 @@ inside_exit a b (Ok value) same is = absurd is
 inside_exit a b (Err e) same is = inside_look a b e same is
 
 pub ruleset ending = (looks_same, looks_joined, alone_same, of_look, look_after, end_after, inside_look, inside)
+
+-- where a call ends in an error nothing is said of what it gives
+pub exit_ok : {T E : Type 0} (P : E → Type 0) (Q : Type 0) (r : Result T E) → IsErrAnd r P → OnOk r Q
+exit_ok P Q (Ok value) is = absurd is
+exit_ok P Q (Err e) is = tt

@@ -1,6 +1,15 @@
 mod CleanEnters
 mod CleanSteps
 mod Cleaning
+mod Drying
 mod Ending
+pub mod Found
+mod Going
+mod Finished
+mod Fronting
+mod Leftover
+mod Judging
+mod Listing
+mod Showing
 mod Trees
 mod TreePrints

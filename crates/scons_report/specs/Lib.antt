@@ -1,6 +1,9 @@
 pub mod Asked
+pub mod Built
 pub mod Causes
 pub mod Cleaning
 pub mod Cleans
+pub mod Dry
+pub mod Overs
 pub mod Trees
 pub mod Walks

@@ -11,7 +11,7 @@ use std::alloc::Global;
 
 /// A step of the walk.
 #[derive(Clone, Copy, Debug)]
-enum Step {
+pub(crate) enum Step {
     Enter(RuleId),
     Leave(RuleId),
 }
@@ -81,7 +81,7 @@ fn enter_named(graph: &Graph, rule: &Rule, steps: &mut Vec<Step>) -> Result<(), 
     enter_all(graph, rule.sources.as_slice(), steps)
 }
 
-fn enter_all(graph: &Graph, nodes: &[NodeId], steps: &mut Vec<Step>) -> Result<(), Memory>
+pub(crate) fn enter_all(graph: &Graph, nodes: &[NodeId], steps: &mut Vec<Step>) -> Result<(), Memory>
     ensures { OnOk result (steps.new.items ≡ with_entered steps.old.items (makers_in graph.now nodes.now)) }
 {
     for place in (0..nodes.len()).rev() {
@@ -100,7 +100,7 @@ fn enter_one(graph: &Graph, node: NodeId, steps: &mut Vec<Step>) -> Result<(), M
 }
 
 /// Marks a rule, and says whether it wasn't marked.
-fn mark(seen: &mut Vec<bool>, rule: RuleId) -> bool
+pub(crate) fn mark(seen: &mut Vec<bool>, rule: RuleId) -> bool
     ensures first { result ≡ not (is_seen seen.old.items rule.0) }
     ensures seen { seen.new.items ≡ slice_set seen.old.items rule.0 true }
 {

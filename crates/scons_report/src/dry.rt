@@ -1,9 +1,15 @@
 //! The rules that a dry run lists.
-ghost use Rattle.std.specs.Prelude.{◌≤◌, length, IfOk, IfSome};
+ghost use Rattle.std.specs.Prelude.{◌≡◌, ◌≤◌, ◌||◌, ℕ, List, ◌++◌, ◌∷◌, [], true, length, slice_set, IfOk, IfSome, IfNone, OnOk};
 ghost use Rattle.world_api.specs.Looks.{Looks};
 ghost use Rattle.scons_report.specs.Causes.{HasListCause, IsInside};
-ghost use Rattle.task_plan.specs.Plans.{IsIdle};
+ghost use Rattle.rule_graph.specs.Rules.{rule_of};
+ghost use Rattle.scons_report.specs.Dry.{AreGone, DryLists};
+ghost use Rattle.scons_report.specs.Overs.{among_paths, is_fed_by, makes_listed, AreTargetsOf, Judges, Lists, ListsAll, ListsNext, StaysReady};
+ghost use Rattle.sign_store.specs.Stores.{map_of_view};
+ghost use Rattle.task_plan.specs.Cycles.{HasNoCycle};
 
+use crate::order::build_order;
+use crate::over::plan_over;
 use build_files::{Inputs, ListEnd, Present, first_target, is_stale, leftover_copies, path_of};
 use deciders::Rec;
 use indexmap::IndexSet;
@@ -12,15 +18,15 @@ use scons_base::limits::DEP_LIMIT;
 use scons_base::{Listing, Memory, NodeId, PathText, Paths, RuleId};
 use sign_store::View;
 use std::alloc::Global;
-use task_plan::{Plan, PlanEvent, Want};
+use task_plan::Plan;
 use world_api::{Hash, World};
 
 /// The rules that were listed so far.
 #[derive(Drop)]
-struct Listed {
-    rules: Vec<RuleId>,
+pub(crate) struct Listed {
+    pub(crate) rules: Vec<RuleId>,
     /// By the numbers of the rules.
-    is_listed: Vec<bool>,
+    pub(crate) is_listed: Vec<bool>,
 }
 
 /// The rules that would be started over the files as they are, in the order of a build at one job: those that are always
@@ -36,15 +42,18 @@ pub fn dry_list<W: World>(
 ) -> Result<Listing<RuleId>, ListEnd>
     ensures looks { Looks W.meaning world.old world.new }
     ensures cause { HasListCause (W.meaning.counts world.old) (W.meaning.counts world.new) result }
+    ensures ok { DryLists W.meaning graph.old graph.new hash (map_of_view view.now) requested.now world.old world.new result }
 {
+    graph.laws();
     let gone = paths_gone(alloc, graph, view, world)?;
     let mut inputs = Inputs::past(alloc, hash, graph, gone);
-    inputs.add_copies(world, graph, requested)?;
-    let plan = Plan::new(alloc, graph, requested)?;
-    let (plan, rules) = go_over(alloc, graph, inputs, plan, view, world)?;
+    let plan = plan_over(alloc, graph, &mut inputs, requested, world)?;
+    let order = build_order(alloc, graph, &plan, requested)?;
+    let rules = list_all(alloc, world, graph, &mut inputs, view, &plan, order.as_slice())?;
+    plan.finishes(graph);
     match cycle_of(alloc, graph, &plan) {
         Some(end) => Err(end),
-        None => Ok(Listing::new(rules)),
+        None => Ok(rules),
     }
 }
 
@@ -58,13 +67,17 @@ fn paths_gone<W: World>(
 ) -> Result<IndexSet<PathText>, ListEnd>
     ensures looks { Looks W.meaning world.old world.new }
     ensures cause { HasListCause (W.meaning.counts world.old) (W.meaning.counts world.new) result }
+    ensures gone { W.meaning.tells world.new → (W.meaning.around world.old).running ≡ []
+        → IfOk result (λ gone. AreGone graph.now (map_of_view view.now) (W.meaning.around world.old) gone.keys) }
 {
     let left = leftover_copies(alloc, world, graph, view)?;
     Ok(targets_of(alloc, left.as_slice())?)
 }
 
 /// The targets of these records.
-fn targets_of(alloc: Global, recs: &[Rec]) -> Result<IndexSet<PathText>, Memory> {
+fn targets_of(alloc: Global, recs: &[Rec]) -> Result<IndexSet<PathText>, Memory>
+    ensures { IfOk result (λ paths. AreTargetsOf recs.now paths.keys) }
+{
     let mut paths = IndexSet::new(alloc);
     for rec in recs {
         add_targets(rec, &mut paths)?;
@@ -72,69 +85,39 @@ fn targets_of(alloc: Global, recs: &[Rec]) -> Result<IndexSet<PathText>, Memory>
     Ok(paths)
 }
 
-fn add_targets(rec: &Rec, paths: &mut IndexSet<PathText>) -> Result<(), Memory> {
+fn add_targets(rec: &Rec, paths: &mut IndexSet<PathText>) -> Result<(), Memory>
+    ensures { OnOk result ((path : List ℕ) → among_paths paths.new.keys path ≡ (among_paths paths.old.keys path || among_paths rec.now.targets path)) }
+{
     for target in rec.targets.as_slice() {
         let _ = paths.insert(target.copy()?)?;
     }
     Ok(())
 }
 
-/// Goes over the rules of a plan until it rests, and gives those that are listed. Beyond 2^64 - 1 turns, which would take centuries, it
-/// says want of memory.
+/// Of these rules those that are listed.
 #[tactic(auto, using(crate::proofs::Ending::ending))]
-fn go_over<W: World>(
+fn list_all<W: World>(
     alloc: Global,
-    graph: &mut Graph,
-    mut inputs: Inputs,
-    mut plan: Plan,
-    view: &View,
     world: &mut W,
-) -> Result<(Plan, Vec<RuleId>), ListEnd>
-    ensures looks { Looks W.meaning world.old world.new }
-    ensures cause { HasListCause (W.meaning.counts world.old) (W.meaning.counts world.new) result }
-    ensures rests { IfOk result (λ gone. IsIdle gone.0) }
-{
-    let mut listed = Listed {
-        rules: Vec::new(alloc),
-        is_listed: Vec::new(alloc),
-    };
-    for _turn in 0..u64::MAX {
-        let wanted = plan.next();
-        if matches!(wanted, Want::Wait | Want::Rest) {
-            let Listed { rules, .. } = listed;
-            return Ok((plan, rules));
-        }
-        let event = take_turn(world, graph, &mut inputs, view, &plan, wanted, &mut listed)?;
-        plan.step(graph, event)?;
-    }
-    Err(ListEnd::Memory)
-}
-
-/// Does what is wanted; each rule counts as made.
-#[tactic(auto, using(crate::proofs::Ending::ending))]
-fn take_turn<W: World>(
-    world: &mut W,
-    graph: &mut Graph,
+    graph: &Graph,
     inputs: &mut Inputs,
     view: &View,
     plan: &Plan,
-    wanted: Want,
-    listed: &mut Listed,
-) -> Result<PlanEvent, ListEnd>
+    order: &[RuleId],
+) -> Result<Listing<RuleId>, ListEnd>
     ensures looks { Looks W.meaning world.old world.new }
     ensures cause { HasListCause (W.meaning.counts world.old) (W.meaning.counts world.new) result }
+    ensures lists { ListsAll W.meaning graph.now (map_of_view view.now) inputs.old plan.now world.old world.new order.now result }
 {
-    match wanted {
-        Want::Scan(rule, file) => {
-            let found = inputs.scanned(world, graph, rule, file)?;
-            Ok(PlanEvent::Scanned(rule, found))
-        }
-        Want::Decide(rule) => {
-            look_at(world, graph, inputs, view, plan.deps(rule), rule, listed)?;
-            Ok(PlanEvent::Fresh(rule))
-        }
-        Want::Wait | Want::Rest => Ok(PlanEvent::Halt),
+    let mut listed = Listed {
+        rules: Vec::new(alloc),
+        is_listed: Vec::from_elem(alloc, false, graph.rules() as usize)?,
+    };
+    for rule in order {
+        look_at(world, graph, inputs, view, plan, *rule, &mut listed)?;
     }
+    let Listed { rules, .. } = listed;
+    Ok(Listing::new(rules))
 }
 
 /// Lists a rule where it would be started.
@@ -144,13 +127,16 @@ fn look_at<W: World>(
     graph: &Graph,
     inputs: &mut Inputs,
     view: &View,
-    deps: &[NodeId],
+    plan: &Plan,
     rule: RuleId,
     listed: &mut Listed,
 ) -> Result<(), ListEnd>
     ensures looks { Looks W.meaning world.old world.new }
     ensures cause { HasListCause (W.meaning.counts world.old) (W.meaning.counts world.new) result }
+    ensures ready { StaysReady W.meaning graph.now inputs.old plan.now world.old inputs.new world.new }
+    ensures lists { ListsNext W.meaning graph.now (map_of_view view.now) inputs.old plan.now world.old world.new rule listed.old listed.new result }
 {
+    let deps = plan.deps(rule);
     if deps.len() > DEP_LIMIT as usize {
         return Err(too_many_deps());
     }
@@ -181,6 +167,8 @@ fn list_stale<W: World>(
 ) -> Result<(), ListEnd>
     ensures looks { Looks W.meaning world.old world.new }
     ensures cause { HasListCause (W.meaning.counts world.old) (W.meaning.counts world.new) result }
+    ensures lists { Judges W.meaning graph.now (map_of_view view.now) world.old world.new rule now.now (is_fed_by graph.now listed.old deps.now)
+        (λ due. OnOk result (Lists listed.old rule listed.new due)) }
 {
     if is_due(world, graph, view, deps, rule, now, listed)? {
         list(listed, rule)?;
@@ -201,6 +189,8 @@ fn is_due<W: World>(
 ) -> Result<bool, ListEnd>
     ensures looks { Looks W.meaning world.old world.new }
     ensures cause { HasListCause (W.meaning.counts world.old) (W.meaning.counts world.new) result }
+    ensures due { Judges W.meaning graph.now (map_of_view view.now) world.old world.new rule now.now (is_fed_by graph.now listed.now deps.now)
+        (λ due. IfOk result (λ is. is ≡ due)) }
 {
     if depends_on_listed(graph, deps, listed) {
         return Ok(true);
@@ -209,20 +199,30 @@ fn is_due<W: World>(
 }
 
 /// Whether the rule of some dependency is listed.
-fn depends_on_listed(graph: &Graph, deps: &[NodeId], listed: &Listed) -> bool {
-    deps.iter().any(|node| match graph.rule_of(*node) {
-        Some(rule) => listed.is_listed.get(rule.0 as usize) == Some(&true),
-        None => false,
-    })
+fn depends_on_listed(graph: &Graph, deps: &[NodeId], listed: &Listed) -> bool
+    ensures { result ≡ is_fed_by graph.now listed.now deps.now }
+{
+    deps.iter().any(|node| makes_listed(graph, listed, *node))
 }
 
-fn list(listed: &mut Listed, rule: RuleId) -> Result<(), Memory> {
-    let number = rule.0 as usize;
-    for _ in listed.is_listed.len()..number.saturating_add(1) {
-        listed.is_listed.push(false)?;
+/// Whether the rule of a file is listed.
+fn makes_listed(graph: &Graph, listed: &Listed, node: NodeId) -> bool
+    ensures { result ≡ makes_listed listed.now (rule_of graph.now.rules node.0) }
+{
+    match graph.rule_of(node) {
+        Some(rule) => listed.is_listed.get(rule.0 as usize) == Some(&true),
+        None => false,
     }
-    if let Some(is_listed) = listed.is_listed.get_mut(number) {
-        *is_listed = true;
+}
+
+/// Puts a rule behind those that are listed.
+fn list(listed: &mut Listed, rule: RuleId) -> Result<(), Memory>
+    ensures marks { OnOk result (listed.new.is_listed.items ≡ slice_set listed.old.is_listed.items rule.0 true) }
+    ensures rules { OnOk result (listed.new.rules.items ≡ listed.old.rules.items ++ rule ∷ []) }
+{
+    let number = rule.0 as usize;
+    if number < listed.is_listed.len() {
+        listed.is_listed[number] = true;
     }
     listed.rules.push(rule)?;
     Ok(())
@@ -245,8 +245,9 @@ fn path_copied(graph: &Graph, node: NodeId) -> Result<PathText, Memory> {
 
 /// Whether rules wait for themselves, as a fault.
 #[tactic(auto, using(crate::proofs::Ending::ending))]
-fn cycle_of(alloc: Global, graph: &Graph, plan: &Plan) -> Option<ListEnd>
-    ensures { IfSome result IsInside }
+pub(crate) fn cycle_of(alloc: Global, graph: &Graph, plan: &Plan) -> Option<ListEnd>
+    ensures some { IfSome result IsInside }
+    ensures none { IfNone result (HasNoCycle plan.now.states plan.now.rules plan.now.origins) }
 {
     match plan.cycle() {
         Ok(Some(rules)) => Some(cycle_end(alloc, graph, rules.as_slice())),

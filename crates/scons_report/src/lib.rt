@@ -6,6 +6,8 @@
 
 mod clean;
 mod dry;
+mod order;
+mod over;
 mod shown;
 mod tree;
 mod tree_end;
