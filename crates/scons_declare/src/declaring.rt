@@ -1,4 +1,9 @@
 //! One call, declared.
+ghost use Rattle.std.specs.Prelude.{◌≡◌, ◌≢◌, [], ◌∷◌, Ok, Err, IfOk, IfErr};
+ghost use Rattle.scons_decls.specs.State.{declared_of};
+ghost use Rattle.scons_declare.specs.Sayings as sayings;
+ghost use Rattle.scons_declare.specs.Names as spec;
+
 use crate::build::{build, slice_of};
 use crate::environment_calls::{
     change, change_default, clone_environment, get, new_environment, set, set_builder, set_decider,
@@ -22,7 +27,12 @@ pub fn declare(
     env: EnvId,
     place: Place,
     call: &Call,
-) -> Result<Answer, NameFault> {
+) -> Result<Answer, NameFault>
+    ensures ok { IfOk result (λ a. spec.declared_by (declared_of state.old) env.0 place call.now
+        ≡ Ok (a, declared_of state.new)) }
+    ensures fault { IfErr result (λ e. e ≢ NameFault.Memory
+        → spec.declared_by (declared_of state.old) env.0 place call.now ≡ Err e) }
+{
     match call {
         Call::Environment(variables) => new_environment(state, variables),
         Call::DefaultEnvironment(variables) => change_default(state, variables),
@@ -54,7 +64,12 @@ fn declare_rules(
     env: EnvId,
     place: Place,
     call: &RuleCall,
-) -> Result<Answer, NameFault> {
+) -> Result<Answer, NameFault>
+    ensures ok { IfOk result (λ a. spec.declares_rules (declared_of state.old) env.0 place call.now
+        ≡ Ok (a, declared_of state.new)) }
+    ensures fault { IfErr result (λ e. e ≢ NameFault.Memory
+        → spec.declares_rules (declared_of state.old) env.0 place call.now ≡ Err e) }
+{
     match call {
         RuleCall::Build {
             maker,
@@ -107,7 +122,12 @@ fn declare_said(
     env: EnvId,
     place: Place,
     call: &SayCall,
-) -> Result<Answer, NameFault> {
+) -> Result<Answer, NameFault>
+    ensures ok { IfOk result (λ a. spec.says_something (declared_of state.old) env.0 place call.now
+        ≡ Ok (a, declared_of state.new)) }
+    ensures fault { IfErr result (λ e. e ≢ NameFault.Memory
+        → spec.says_something (declared_of state.old) env.0 place call.now ≡ Err e) }
+{
     let (saying, targets, nodes) = match call {
         SayCall::Depends { targets, nodes } => (
             Saying::Depends,
@@ -143,25 +163,41 @@ fn declare_said(
 }
 
 /// `File(name)`
-fn file(state: &Declarations, env: EnvId, given: &Given) -> Result<Answer, NameFault> {
+fn file(state: &Declarations, env: EnvId, given: &Given) -> Result<Answer, NameFault>
+    ensures ok { IfOk result (λ a. spec.file (declared_of state.now) env.0 given.now ≡ Ok (a, declared_of state.now)) }
+    ensures fault { IfErr result (λ e. e ≢ NameFault.Memory
+        → spec.file (declared_of state.now) env.0 given.now ≡ Err e) }
+{
     let path = file_of(state, env, given, "File")?;
     one_node(state, Given::File(path))
 }
 
 /// `Dir(name)`
-fn dir(state: &Declarations, env: EnvId, given: &Given) -> Result<Answer, NameFault> {
+fn dir(state: &Declarations, env: EnvId, given: &Given) -> Result<Answer, NameFault>
+    ensures ok { IfOk result (λ a. spec.dir (declared_of state.now) env.0 given.now ≡ Ok (a, declared_of state.now)) }
+    ensures fault { IfErr result (λ e. e ≢ NameFault.Memory
+        → spec.dir (declared_of state.now) env.0 given.now ≡ Err e) }
+{
     let path = dir_of(state, env, given, "Dir")?;
     one_node(state, Given::Dir(path))
 }
 
-fn one_node(state: &Declarations, node: Given) -> Result<Answer, NameFault> {
+fn one_node(state: &Declarations, node: Given) -> Result<Answer, NameFault>
+    ensures ok { IfOk result (λ a. a ≡ Answer.Targets (node ∷ [])) }
+    ensures fault { IfErr result (λ e. e ≡ NameFault.Memory) }
+{
     let mut nodes = Listing::empty(state.alloc);
     nodes.push(node)?;
     Ok(Answer::Targets(nodes))
 }
 
 /// `Help(text)`
-fn help(state: &mut Declarations, env: EnvId, text: &Text) -> Result<Answer, NameFault> {
+fn help(state: &mut Declarations, env: EnvId, text: &Text) -> Result<Answer, NameFault>
+    ensures ok { IfOk result (λ a. sayings.help (declared_of state.old) env.0 text.now
+        ≡ Ok (a, declared_of state.new)) }
+    ensures fault { IfErr result (λ e. e ≢ NameFault.Memory
+        → sayings.help (declared_of state.old) env.0 text.now ≡ Err e) }
+{
     let text = expanded(state, env, text.as_str(), Mode::Raw)?;
     state.helps.push(text)?;
     Ok(Answer::Nothing)
@@ -174,7 +210,12 @@ fn variant_dir(
     variant: &Given,
     source: &Given,
     duplicate: bool,
-) -> Result<Answer, NameFault> {
+) -> Result<Answer, NameFault>
+    ensures ok { IfOk result (λ a. spec.variant_dir (declared_of state.old) env.0 variant.now source.now duplicate
+        ≡ Ok (a, declared_of state.new)) }
+    ensures fault { IfErr result (λ e. e ≢ NameFault.Memory
+        → spec.variant_dir (declared_of state.old) env.0 variant.now source.now duplicate ≡ Err e) }
+{
     let variant = dir_of(state, env, variant, "VariantDir")?;
     let source = dir_of(state, env, source, "VariantDir")?;
     state.locals.variants.add(&variant, &source, duplicate)?;

@@ -1,4 +1,8 @@
 //! The calls on environments.
+ghost use Rattle.std.specs.Prelude.{◌≡◌, ◌≢◌, Ok, Err, IfOk, IfErr, OnOk};
+ghost use Rattle.scons_decls.specs.State.{declared_of};
+ghost use Rattle.scons_declare.specs.Changes as spec;
+
 use crate::variables::{change_all, change_one, set_builders};
 use env_subst::Mode;
 use env_vars::EnvValue;
@@ -13,7 +17,12 @@ use world_api::Decider;
 pub(crate) fn new_environment(
     state: &mut Declarations,
     variables: &Variables,
-) -> Result<Answer, NameFault> {
+) -> Result<Answer, NameFault>
+    ensures ok { IfOk result (λ a. spec.environment (declared_of state.old) variables.now
+        ≡ Ok (a, declared_of state.new)) }
+    ensures fault { IfErr result (λ e. e ≢ NameFault.Memory
+        → spec.environment (declared_of state.old) variables.now ≡ Err e) }
+{
     refuse_variables(state.alloc, variables.values.as_slice())?;
     let env = state.envs.make()?;
     change(state, env, Change::Replace, variables)?;
@@ -24,7 +33,12 @@ pub(crate) fn new_environment(
 pub(crate) fn change_default(
     state: &mut Declarations,
     variables: &Variables,
-) -> Result<Answer, NameFault> {
+) -> Result<Answer, NameFault>
+    ensures ok { IfOk result (λ a. spec.default_environment (declared_of state.old) variables.now
+        ≡ Ok (a, declared_of state.new)) }
+    ensures fault { IfErr result (λ e. e ≢ NameFault.Memory
+        → spec.default_environment (declared_of state.old) variables.now ≡ Err e) }
+{
     let env = state.default_env();
     change(state, env, Change::Replace, variables)?;
     Ok(Answer::Env(env))
@@ -35,7 +49,12 @@ pub(crate) fn clone_environment(
     state: &mut Declarations,
     env: EnvId,
     variables: &Variables,
-) -> Result<Answer, NameFault> {
+) -> Result<Answer, NameFault>
+    ensures ok { IfOk result (λ a. spec.clone (declared_of state.old) env.0 variables.now
+        ≡ Ok (a, declared_of state.new)) }
+    ensures fault { IfErr result (λ e. e ≢ NameFault.Memory
+        → spec.clone (declared_of state.old) env.0 variables.now ≡ Err e) }
+{
     refuse_variables(state.alloc, variables.values.as_slice())?;
     let clone = state.envs.clone_of(env)?;
     set_given(state, env, clone, variables.values.as_slice())?;
@@ -49,7 +68,12 @@ fn set_given(
     env: EnvId,
     clone: EnvId,
     values: &[(Text, EnvValue)],
-) -> Result<(), NameFault> {
+) -> Result<(), NameFault>
+    ensures ok { OnOk result (spec.all_given env.0 clone.0 values.now (declared_of state.old)
+        ≡ Ok (declared_of state.new)) }
+    ensures fault { IfErr result (λ e. e ≢ NameFault.Memory
+        → spec.all_given env.0 clone.0 values.now (declared_of state.old) ≡ Err e) }
+{
     for (name, value) in values {
         let value = state.envs.given(env, name, value)?;
         change_one(state, clone, Change::Replace, name, &value)?;
@@ -63,7 +87,12 @@ pub(crate) fn change(
     env: EnvId,
     how: Change,
     variables: &Variables,
-) -> Result<Answer, NameFault> {
+) -> Result<Answer, NameFault>
+    ensures ok { IfOk result (λ a. spec.change (declared_of state.old) env.0 how variables.now
+        ≡ Ok (a, declared_of state.new)) }
+    ensures fault { IfErr result (λ e. e ≢ NameFault.Memory
+        → spec.change (declared_of state.old) env.0 how variables.now ≡ Err e) }
+{
     refuse_variables(state.alloc, variables.values.as_slice())?;
     change_all(state, env, how, variables.values.as_slice())?;
     set_builders(state, env, variables.builders.as_slice())?;
@@ -76,7 +105,12 @@ pub(crate) fn set(
     env: EnvId,
     name: &Text,
     value: &EnvValue,
-) -> Result<Answer, NameFault> {
+) -> Result<Answer, NameFault>
+    ensures ok { IfOk result (λ a. spec.set (declared_of state.old) env.0 name.now value.now
+        ≡ Ok (a, declared_of state.new)) }
+    ensures fault { IfErr result (λ e. e ≢ NameFault.Memory
+        → spec.set (declared_of state.old) env.0 name.now value.now ≡ Err e) }
+{
     refuse_variable(state.alloc, name.as_str())?;
     refuse_value(state.alloc, value)?;
     change_one(state, env, Change::Replace, name, value)?;
@@ -89,13 +123,21 @@ pub(crate) fn set_builder(
     env: EnvId,
     name: &Text,
     builder: u32,
-) -> Result<Answer, NameFault> {
+) -> Result<Answer, NameFault>
+    ensures ok { IfOk result (λ a. spec.set_builder (declared_of state.old) env.0 name.now builder
+        ≡ Ok (a, declared_of state.new)) }
+    ensures fault { IfErr result (λ e. e ≢ NameFault.Memory
+        → spec.set_builder (declared_of state.old) env.0 name.now builder ≡ Err e) }
+{
     state.envs.set_builder(env, name, builder)?;
     Ok(Answer::Nothing)
 }
 
 /// `env['X']` and `env.get('X')`
-pub(crate) fn get(state: &Declarations, env: EnvId, name: &Text) -> Result<Answer, NameFault> {
+pub(crate) fn get(state: &Declarations, env: EnvId, name: &Text) -> Result<Answer, NameFault>
+    ensures ok { IfOk result (λ a. spec.get (declared_of state.now) env.0 name.now ≡ Ok (a, declared_of state.now)) }
+    ensures fault { IfErr result (λ e. e ≢ NameFault.Memory → spec.get (declared_of state.now) env.0 name.now ≡ Err e) }
+{
     let value = match state.envs.get(env, name.as_str()) {
         Some(value) => Some(value.copy(state.alloc)?),
         None => {
@@ -112,7 +154,12 @@ pub(crate) fn subst(
     env: EnvId,
     text: &Text,
     mode: Mode,
-) -> Result<Answer, NameFault> {
+) -> Result<Answer, NameFault>
+    ensures ok { IfOk result (λ a. spec.subst (declared_of state.now) env.0 text.now mode
+        ≡ Ok (a, declared_of state.now)) }
+    ensures fault { IfErr result (λ e. e ≢ NameFault.Memory
+        → spec.subst (declared_of state.now) env.0 text.now mode ≡ Err e) }
+{
     Ok(Answer::Text(expanded(state, env, text.as_str(), mode)?))
 }
 
@@ -121,7 +168,11 @@ pub(crate) fn set_decider(
     state: &mut Declarations,
     env: EnvId,
     name: &Text,
-) -> Result<Answer, NameFault> {
+) -> Result<Answer, NameFault>
+    ensures ok { IfOk result (λ a. spec.decide (declared_of state.old) env.0 name.now ≡ Ok (a, declared_of state.new)) }
+    ensures fault { IfErr result (λ e. e ≢ NameFault.Memory
+        → spec.decide (declared_of state.old) env.0 name.now ≡ Err e) }
+{
     let Some(decider) = decider_named(name.as_str()) else {
         return Err(bad_argument(state, "Decider"));
     };
@@ -129,12 +180,18 @@ pub(crate) fn set_decider(
     Ok(Answer::Nothing)
 }
 
-fn decider_named(name: &str) -> Option<Decider> {
-    match name.as_bytes() {
-        b"content" | b"MD5" => Some(Decider::Content),
-        b"timestamp-newer" | b"make" => Some(Decider::Newer),
-        b"timestamp-match" => Some(Decider::Match),
-        b"content-timestamp" | b"MD5-timestamp" => Some(Decider::ContentMatch),
-        _ => None,
+fn decider_named(name: &str) -> Option<Decider>
+    ensures { result ≡ spec.decider_named name.now }
+{
+    if name == "content" || name == "MD5" {
+        Some(Decider::Content)
+    } else if name == "timestamp-newer" || name == "make" {
+        Some(Decider::Newer)
+    } else if name == "timestamp-match" {
+        Some(Decider::Match)
+    } else if name == "content-timestamp" || name == "MD5-timestamp" {
+        Some(Decider::ContentMatch)
+    } else {
+        None
     }
 }

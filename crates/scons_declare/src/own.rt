@@ -1,9 +1,13 @@
 //! Builders of a script's own, and Command.
-ghost use Rattle.std.specs.Prelude.{◌<◌, length, IfOk};
+ghost use Rattle.std.specs.Prelude.{◌≡◌, ◌≢◌, [], ◌∷◌, ◌++◌, Ok, Err, IfOk, IfErr, OnOk};
+ghost use Rattle.std.specs.List.{flat_map};
+ghost use Rattle.scons_decls.specs.State.{declared_of};
+ghost use Rattle.scons_declare.specs.Calls.{nodes_in};
+ghost use Rattle.scons_declare.specs.Owns as spec;
 
-use crate::objects::{distinct_targets, named_source};
-use crate::site::{Site, as_answer, declare_rule, one_path};
-use crate::suffixes::{Affixes, affixes_of, dotted, target_of};
+use crate::objects::{distinct_targets, each_once, named_all};
+use crate::site::{Site, as_answer, declare_answering, one_path};
+use crate::suffixes::{Affixes, affixes_of, dotted, plain, target_of};
 use scons_base::{PathText, Paths, Text, Texts};
 use scons_decls::{
     Answer, Builder, Declarations, Given, NameFault, Recipe, bad_argument, files_of,
@@ -16,11 +20,16 @@ struct Naming {
     source: Affixes,
 }
 
-fn naming_of(state: &Declarations, site: Site, builder: u32) -> Result<Naming, NameFault> {
+#[tactic(auto, unfolding(crate::specs::Owns::naming_of))]
+fn naming_of(state: &Declarations, site: Site, builder: u32) -> Result<Naming, NameFault>
+    ensures ok { IfOk result (λ a. spec.naming_of (declared_of state.now) site builder ≡ Ok a) }
+    ensures fault { IfErr result (λ e. e ≢ NameFault.Memory
+        → spec.naming_of (declared_of state.now) site builder ≡ Err e) }
+{
     let Some(builder) = state.builders.get(builder as usize) else {
         return Ok(Naming {
-            target: affixes_of(state, site.env, "", "")?,
-            source: affixes_of(state, site.env, "", "")?,
+            target: plain(state)?,
+            source: plain(state)?,
         });
     };
     let suffix = dotted(state, &builder.suffix)?;
@@ -39,32 +48,57 @@ pub(crate) fn own_rule(
     name: &str,
     targets: Option<&[Given]>,
     sources: &[Given],
-) -> Result<Answer, NameFault> {
+) -> Result<Answer, NameFault>
+    ensures ok { IfOk result (λ a. spec.own_rule (declared_of state.old) site builder name.now
+        (nodes_in targets.entry) sources.now ≡ Ok (a, declared_of state.new)) }
+    ensures fault { IfErr result (λ e. e ≢ NameFault.Memory
+        → spec.own_rule (declared_of state.old) site builder name.now (nodes_in targets.entry) sources.now ≡ Err e) }
+{
     let naming = naming_of(state, site, builder)?;
-    if targets.is_none() && sources.is_empty() {
+    declare_own(state, site, &naming, builder, name, targets, sources)
+}
+
+#[tactic(auto, unfolding(crate::specs::Owns::own_declared))]
+fn declare_own(
+    state: &mut Declarations,
+    site: Site,
+    naming: &Naming,
+    builder: u32,
+    name: &str,
+    targets: Option<&[Given]>,
+    sources: &[Given],
+) -> Result<Answer, NameFault>
+    ensures ok { IfOk result (λ a. spec.own_declared (declared_of state.old) site naming.now builder name.now
+        (nodes_in targets.entry) sources.now ≡ Ok (a, declared_of state.new)) }
+    ensures fault { IfErr result (λ e. e ≢ NameFault.Memory → spec.own_declared (declared_of state.old) site
+        naming.now builder name.now (nodes_in targets.entry) sources.now ≡ Err e) }
+{
+    let sources = named_all(state, site, &naming.source, name, sources)?;
+    let targets = own_targets(state, site, naming, name, targets, sources.as_slice())?;
+    declare_unless_none(state, site, builder, targets, sources)
+}
+
+/// Without a target nothing is declared.
+#[tactic(auto, unfolding(crate::specs::Owns::unless_none))]
+fn declare_unless_none(
+    state: &mut Declarations,
+    site: Site,
+    builder: u32,
+    targets: Paths,
+    sources: Paths,
+) -> Result<Answer, NameFault>
+    ensures ok { IfOk result (λ a. spec.unless_none (declared_of state.old) site builder targets sources
+        ≡ Ok (a, declared_of state.new)) }
+    ensures fault { IfErr result (λ e. e ≡ NameFault.Memory) }
+{
+    if targets.as_slice().is_empty() {
         return as_answer(state, &[]);
     }
-    let sources = own_sources(state, site, &naming.source, name, sources)?;
-    let targets = own_targets(state, site, &naming, name, targets, sources.as_slice())?;
-    let answer = as_answer(state, targets.as_slice())?;
-    declare_rule(state, site, Recipe::Own(builder), targets, sources)?;
-    Ok(answer)
+    declare_answering(state, site, Recipe::Own(builder), targets, sources)
 }
 
-fn own_sources(
-    state: &Declarations,
-    site: Site,
-    affixes: &Affixes,
-    name: &str,
-    sources: &[Given],
-) -> Result<Paths, NameFault> {
-    let mut paths = Paths::new(Vec::new(state.alloc));
-    for source in sources {
-        paths.push(named_source(state, site, source, affixes, name)?)?;
-    }
-    Ok(paths)
-}
-
+/// The targets: where none is named, one by the first source, and none where there is no source either.
+#[tactic(auto, unfolding(crate::specs::Owns::own_targets))]
 fn own_targets(
     state: &Declarations,
     site: Site,
@@ -73,7 +107,10 @@ fn own_targets(
     targets: Option<&[Given]>,
     sources: &[PathText],
 ) -> Result<Paths, NameFault>
-    ensures { IfOk result (λ p. 0 < length p) }
+    ensures ok { IfOk result (λ p. spec.own_targets (declared_of state.now) site naming.now name.now
+        (nodes_in targets.entry) sources.now ≡ Ok p) }
+    ensures fault { IfErr result (λ e. e ≢ NameFault.Memory → spec.own_targets (declared_of state.now) site
+        naming.now name.now (nodes_in targets.entry) sources.now ≡ Err e) }
 {
     match targets {
         Some(targets) => distinct_targets(state, site, &naming.target, name, targets),
@@ -86,10 +123,11 @@ fn default_target(
     naming: &Naming,
     sources: &[PathText],
 ) -> Result<Paths, NameFault>
-    ensures { IfOk result (λ p. 0 < length p) }
+    ensures ok { IfOk result (λ p. spec.default_target naming.now sources.now ≡ Ok p) }
+    ensures fault { IfErr result (λ e. e ≢ NameFault.Memory → spec.default_target naming.now sources.now ≡ Err e) }
 {
     let Some(source) = sources.first() else {
-        return Err(NameFault::NoSource);
+        return Ok(Paths::new(Vec::new(state.alloc)));
     };
     let known = naming.source.suffix.as_str();
     let target = target_of(state, source, known, &naming.target)?;
@@ -103,21 +141,26 @@ pub(crate) fn command(
     targets: &[Given],
     sources: &[Given],
     action: &Texts,
-) -> Result<Answer, NameFault> {
+) -> Result<Answer, NameFault>
+    ensures ok { IfOk result (λ a. spec.command (declared_of state.old) site targets.now sources.now action.now
+        ≡ Ok (a, declared_of state.new)) }
+    ensures fault { IfErr result (λ e. e ≢ NameFault.Memory
+        → spec.command (declared_of state.old) site targets.now sources.now action.now ≡ Err e) }
+{
     let lines = lines_of(state, action.as_slice())?;
-    let plain = affixes_of(state, site.env, "", "")?;
-    let targets = distinct_targets(state, site, &plain, "Command", targets)?;
+    let targets = files_of(state, site.env, targets, "Command")?;
+    let targets = each_once(state, "Command", targets)?;
     let sources = files_of(state, site.env, sources, "Command")?;
-    let answer = as_answer(state, targets.as_slice())?;
-    declare_rule(state, site, Recipe::Command(lines), targets, sources)?;
-    Ok(answer)
+    declare_answering(state, site, Recipe::Command(lines), targets, sources)
 }
 
 /// `Builder(..)`: the number of the new builder.
-pub(crate) fn new_builder(
-    state: &mut Declarations,
-    builder: &Builder,
-) -> Result<Answer, NameFault> {
+pub(crate) fn new_builder(state: &mut Declarations, builder: &Builder) -> Result<Answer, NameFault>
+    ensures ok { IfOk result (λ a. spec.new_builder (declared_of state.old) builder.now
+        ≡ Ok (a, declared_of state.new)) }
+    ensures fault { IfErr result (λ e. e ≢ NameFault.Memory
+        → spec.new_builder (declared_of state.old) builder.now ≡ Err e) }
+{
     let action = lines_of(state, builder.action.as_slice())?;
     let number = state.builders.len();
     if number >= u32::MAX as usize {
@@ -134,23 +177,50 @@ pub(crate) fn new_builder(
 }
 
 /// The lines of an action: each text is cut at line feeds.
-fn lines_of(state: &Declarations, action: &[Text]) -> Result<Texts, NameFault> {
-    let mut lines = Texts::new(Vec::new(state.alloc));
-    for text in action {
-        push_lines(state, &mut lines, text.as_str())?;
-    }
-    if lines.as_slice().iter().all(|line| line.as_str().is_empty()) {
+fn lines_of(state: &Declarations, action: &[Text]) -> Result<Texts, NameFault>
+    ensures ok { IfOk result (λ a. spec.lines_of action.now ≡ Ok a) }
+    ensures fault { IfErr result (λ e. e ≢ NameFault.Memory → spec.lines_of action.now ≡ Err e) }
+{
+    let lines = lines_in(state, action)?;
+    if are_empty(lines.as_slice()) {
         return Err(NameFault::EmptyAction);
     }
     Ok(lines)
 }
 
-fn push_lines(state: &Declarations, lines: &mut Texts, text: &str) -> Result<(), NameFault> {
+fn lines_in(state: &Declarations, action: &[Text]) -> Result<Texts, NameFault>
+    ensures ok { IfOk result (λ a. a ≡ flat_map spec.lines_in action.now) }
+    ensures fault { IfErr result (λ e. e ≡ NameFault.Memory) }
+{
+    let mut lines = Texts::new(Vec::new(state.alloc));
+    for text in action {
+        push_lines(state, &mut lines, text.as_str())?;
+    }
+    Ok(lines)
+}
+
+fn are_empty(lines: &[Text]) -> bool
+    ensures { result ≡ spec.are_empty lines.now }
+{
+    lines.iter().all(|line| line.as_str().is_empty())
+}
+
+fn push_lines(state: &Declarations, lines: &mut Texts, text: &str) -> Result<(), NameFault>
+    ensures ok { OnOk result (lines.new ≡ lines.old ++ spec.lines_in text.now) }
+    ensures fault { IfErr result (λ e. e ≡ NameFault.Memory) }
+{
     let mut rest = text;
-    'lines: while let Some((line, after)) = rest.split_once('\n') {
-        lines.push(Text::of(state.alloc, line)?)?;
+    'parts: while let Some((line, after)) = rest.split_once('\n') {
+        push_line(state, lines, line)?;
         rest = after;
     }
-    lines.push(Text::of(state.alloc, rest)?)?;
+    push_line(state, lines, rest)
+}
+
+fn push_line(state: &Declarations, lines: &mut Texts, line: &str) -> Result<(), NameFault>
+    ensures ok { OnOk result (lines.new ≡ lines.old ++ line.now ∷ []) }
+    ensures fault { IfErr result (λ e. e ≡ NameFault.Memory) }
+{
+    lines.push(Text::of(state.alloc, line)?)?;
     Ok(())
 }

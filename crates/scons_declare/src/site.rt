@@ -1,5 +1,7 @@
 //! Where a rule is declared.
-ghost use Rattle.std.specs.Prelude.{◌<◌, length, IfOk};
+ghost use Rattle.std.specs.Prelude.{◌≡◌, ◌≢◌, ◌<◌, [], ◌∷◌, length, Ok, Err, IfOk, IfErr, OnOk};
+ghost use Rattle.scons_decls.specs.State.{declared_of};
+ghost use Rattle.scons_declare.specs.Sites as spec;
 
 use scons_base::{EnvId, Listing, PathText, Paths};
 use scons_decls::{
@@ -21,7 +23,12 @@ pub(crate) fn site_of(
     env: EnvId,
     place: Place,
     variables: &Variables,
-) -> Result<Site, NameFault> {
+) -> Result<Site, NameFault>
+    ensures ok { IfOk result (λ a. spec.called_at (declared_of state.old) env.0 place variables.now
+        ≡ Ok (a, declared_of state.new)) }
+    ensures fault { IfErr result (λ e. e ≢ NameFault.Memory
+        → spec.called_at (declared_of state.old) env.0 place variables.now ≡ Err e) }
+{
     let decider = state.envs.decider(env);
     let env = state.envs.of_call(env, variables.values.as_slice())?;
     Ok(Site {
@@ -40,6 +47,9 @@ pub(crate) fn declare_rule(
     sources: Paths,
 ) -> Result<(), NameFault>
     requires { 0 < length targets }
+    ensures ok { OnOk result (declared_of state.new ≡ spec.with_rule (declared_of state.old) site recipe targets
+        sources) }
+    ensures fault { IfErr result (λ e. e ≡ NameFault.Memory) }
 {
     add_made(state, targets.as_slice())?;
     let dir = state.locals.dir.copy()?;
@@ -55,7 +65,28 @@ pub(crate) fn declare_rule(
     Ok(())
 }
 
-fn add_made(state: &mut Declarations, targets: &[PathText]) -> Result<(), NameFault> {
+/// Declares one rule, and answers its targets.
+pub(crate) fn declare_answering(
+    state: &mut Declarations,
+    site: Site,
+    recipe: Recipe,
+    targets: Paths,
+    sources: Paths,
+) -> Result<Answer, NameFault>
+    requires { 0 < length targets }
+    ensures ok { IfOk result (λ a. spec.declares (declared_of state.old) site recipe targets sources
+        ≡ Ok (a, declared_of state.new)) }
+    ensures fault { IfErr result (λ e. e ≡ NameFault.Memory) }
+{
+    let answer = as_answer(state, targets.as_slice())?;
+    declare_rule(state, site, recipe, targets, sources)?;
+    Ok(answer)
+}
+
+fn add_made(state: &mut Declarations, targets: &[PathText]) -> Result<(), NameFault>
+    ensures ok { OnOk result (declared_of state.new ≡ spec.with_made targets.now (declared_of state.old)) }
+    ensures fault { IfErr result (λ e. e ≡ NameFault.Memory) }
+{
     for target in targets {
         state.made.add(state.alloc, target)?;
     }
@@ -63,7 +94,9 @@ fn add_made(state: &mut Declarations, targets: &[PathText]) -> Result<(), NameFa
 }
 
 /// A call in an environment that gives no variables.
-pub(crate) fn plain_site(state: &Declarations, env: EnvId, place: Place) -> Site {
+pub(crate) fn plain_site(state: &Declarations, env: EnvId, place: Place) -> Site
+    ensures { result ≡ spec.plain_site (declared_of state.now) env.0 place }
+{
     Site {
         place,
         env,
@@ -72,18 +105,23 @@ pub(crate) fn plain_site(state: &Declarations, env: EnvId, place: Place) -> Site
 }
 
 /// These paths as a call answers them.
-pub(crate) fn as_answer(state: &Declarations, paths: &[PathText]) -> Result<Answer, NameFault> {
+pub(crate) fn as_answer(state: &Declarations, paths: &[PathText]) -> Result<Answer, NameFault>
+    ensures ok { IfOk result (λ a. a ≡ spec.answer_of paths.now) }
+    ensures fault { IfErr result (λ e. e ≡ NameFault.Memory) }
+{
     Ok(Answer::Targets(as_nodes(state, paths)?))
 }
 
 pub(crate) fn one_path(state: &Declarations, path: &PathText) -> Result<Paths, NameFault>
-    ensures { IfOk result (λ p. 0 < length p) }
+    ensures ok { IfOk result (λ p. p ≡ path.now ∷ []) }
+    ensures fault { IfErr result (λ e. e ≡ NameFault.Memory) }
 {
     only_path(state, path.copy()?)
 }
 
 pub(crate) fn only_path(state: &Declarations, path: PathText) -> Result<Paths, NameFault>
-    ensures { IfOk result (λ p. 0 < length p) }
+    ensures ok { IfOk result (λ p. p ≡ path ∷ []) }
+    ensures fault { IfErr result (λ e. e ≡ NameFault.Memory) }
 {
     let mut paths = Paths::new(Vec::with_capacity(state.alloc, 1)?);
     paths.push(path)?;

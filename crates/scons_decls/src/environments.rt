@@ -223,12 +223,7 @@ impl Environments {
     }
 
     /// `AppendUnique`: those items behind the variable's that it doesn't have yet.
-    pub fn append_unique(
-        &mut self,
-        env: EnvId,
-        name: &str,
-        value: EnvValue,
-    ) -> Result<(), EnvFault>
+    pub fn append_unique(&mut self, env: EnvId, name: &str, value: EnvValue) -> Result<(), EnvFault>
         ensures ok { OnOk result (spec.with_missing self.old env.0 name.now value ≡ Some self.new) }
         ensures fault { IfErr result (λ e. e ≢ EnvFault.Memory
             → (e ≡ EnvFault.Kinds) × (spec.with_missing self.old env.0 name.now value ≡ None)) }

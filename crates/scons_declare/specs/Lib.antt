@@ -1,0 +1,10 @@
+pub mod Calls
+pub mod Changes
+pub mod Sites
+pub mod Affixes
+pub mod Linking
+pub mod Owns
+pub mod Copies
+pub mod Writes
+pub mod Sayings
+pub mod Names
