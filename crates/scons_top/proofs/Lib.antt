@@ -9,3 +9,4 @@ mod Clearing
 mod Opening
 mod Stopping
 mod Shown
+mod Asking

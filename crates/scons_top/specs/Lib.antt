@@ -1,3 +1,4 @@
+pub mod Asked
 pub mod Builds
 pub mod Causes
 pub mod Cleaned

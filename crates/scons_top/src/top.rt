@@ -1,6 +1,7 @@
 //! The steps of a run.
 ghost use Rattle.std.specs.Prelude.{◌≡◌, ◌≢◌, [], ℕ, Ok, Err, IfOk, IfErr, Contains, IsSome, IsTrue};
 ghost use Rattle.build_run.specs.Goings.{Passes};
+ghost use Rattle.scons_top.specs.Asked.{StopsUnknown, TellUnknown};
 ghost use Rattle.scons_top.specs.Builds.{Builds, RunBuilds};
 ghost use Rattle.scons_top.specs.Causes.{RunCauses};
 ghost use Rattle.scons_top.specs.Cleaned.{Cleans, RunCleans};
@@ -58,6 +59,7 @@ pub fn scons<W: World, O: Sink, E: Sink>(
     ensures bytes { W.meaning.tells world.new → TellsBytes (W.meaning.seen world.old) result.step result.faults }
     ensures refused { (why : WordsFault) → read words.now ≡ Err why → RefusesWords why world.old world.new out.old out.new result }
     ensures usage { (place : ℕ) (kind : UsageKind) → Contains result.faults (Top.Usage place kind) → read words.now ≡ Err (At place kind) }
+    ensures unknown { (said : Words) → read words.now ≡ Ok said → TellUnknown said result.faults }
     ensures load { (said : Words) → read words.now ≡ Ok said → IsSome said.load → world.new ≡ world.old }
     ensures cleans { (said : Words) → read words.now ≡ Ok said → Cleans W.meaning said world.old world.new result }
     ensures idle { W.meaning.tells world.new → (W.meaning.around world.new).running ≡ [] }
@@ -93,6 +95,7 @@ fn take_words<W: World, O: Sink, E: Sink>(
     ensures bytes { RunByBytes W.meaning at.new world.old world.new result }
     ensures refused { (why : WordsFault) → read words.now ≡ Err why → IsRefused why at.new world.old world.new out.old out.new result }
     ensures usage { IfErr result (TellsUsage (read words.now)) }
+    ensures unknown { (said : Words) → read words.now ≡ Ok said → IfErr result (StopsUnknown said) }
     ensures past { IfOk result (λ report. at.new ≢ Step.Words) }
     ensures load { (said : Words) → read words.now ≡ Ok said → IsSome said.load → world.new ≡ world.old }
     ensures cleans { (said : Words) → read words.now ≡ Ok said → RunCleans W.meaning said at.new world.old world.new result }
@@ -133,6 +136,7 @@ pub(crate) fn run<W: World, O: Sink, E: Sink>(
     ensures leaves { LeavesAt W.meaning at.new world.old world.new }
     ensures ends { RunEndsAt at.new result }
     ensures bytes { RunByBytes W.meaning at.new world.old world.new result }
+    ensures unknown { IfErr result (StopsUnknown words.now) }
     ensures cleans { RunCleans W.meaning words.now at.new world.old world.new result }
     ensures passes { Passes W.meaning world.old world.new }
     ensures reports { Reports W.meaning O.meaning E.meaning world.old out.old err.old world.new out.new err.new result }

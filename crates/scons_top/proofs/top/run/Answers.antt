@@ -3,6 +3,7 @@ use Rattle.scons_top.proofs.Clearing.{not_reading, cleans_after}
 use Rattle.scons_top.specs.declared.step.Step.TheVariants as step
 use Rattle.scons_top.proofs.Watching.{watches_on}
 use Rattle.scons_top.proofs.Stepping.{reading_runs, serves_runs, leaves_reading, leaves_after, ends_exit}
+use Rattle.scons_top.proofs.Asking.{stops_asked, unknown_stop, unknown_else, reading_else, serves_else}
 use Rattle.scons_top.proofs.Stopping.{runs_by, runs_on, steps_looked}
 use Rattle.world_api.proofs.Looking.{looks_joined}
 use Rattle.scons_top.proofs.Early.{any_stop, stop_after}
@@ -107,7 +108,7 @@ pub returns-then-words-clause-ends : goal.returns-then-words-clause-ends
 returns-then-words-clause-ends g c = c.help.ensures.ends
 
 pub returns-in_err-requests-clause-ends : goal.returns-in_err-requests-clause-ends
-returns-in_err-requests-clause-ends g c = let r = c.from_residual-in_err-requests in ends_exit step.Requests r.result _ r.ensures.1 c.in_err-requests.ensures.stops
+returns-in_err-requests-clause-ends g c = let r = c.from_residual-in_err-requests in ends_exit step.Requests r.result _ r.ensures.1 (stops_asked _ _ c.in_err-requests.ensures.stops)
 
 pub returns-clause-ends : goal.returns-clause-ends
 returns-clause-ends g c = c.serve.ensures.ends
@@ -143,3 +144,19 @@ pub returns-clause-bytes : goal.returns-clause-bytes
 returns-clause-bytes g c =
     run_after g.W.Disk.meaning _ c.args.world.now c.requests_of.new.world c.serve.new.world c.serve.result
     (looks_joined _ _ _ _ c.read.ensures.watches.looks c.requests_of.ensures.watches.looks) c.serve.ensures.passes.told.told c.serve.ensures.bytes
+
+pub returns-in_err-graph-clause-unknown : goal.returns-in_err-graph-clause-unknown
+returns-in_err-graph-clause-unknown g c =
+    unknown_else c.args.words.now c.read.new.at c.from_residual.result (λ word. reading_else _ word c.read.ensures.reading) (returns-in_err-graph-clause-ends g c)
+
+pub returns-then-words-clause-unknown : goal.returns-then-words-clause-unknown
+returns-then-words-clause-unknown g c = unknown_else c.args.words.now step.Help c.help.result (λ word h. h) c.help.ensures.ends
+
+pub returns-in_err-requests-clause-unknown : goal.returns-in_err-requests-clause-unknown
+returns-in_err-requests-clause-unknown g c =
+    let r = c.from_residual-in_err-requests in
+    unknown_stop c.args.words.now _ c.requests_of.new.graph r.result _ r.ensures.1 c.in_err-requests.ensures.stops
+
+pub returns-clause-unknown : goal.returns-clause-unknown
+returns-clause-unknown g c =
+    unknown_else c.args.words.now c.serve.new.at c.serve.result (λ word. serves_else c.args.words.now _ word c.serve.ensures.serves) c.serve.ensures.ends

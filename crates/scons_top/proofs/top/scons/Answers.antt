@@ -1,5 +1,6 @@
 use Rattle.scons_top.proofs.Opening.{report_bytes, stopped_bytes}
 use Rattle.scons_top.proofs.Clearing.{cleans_report, cleans_stop}
+use Rattle.scons_top.proofs.Asking.{none_told, told_alone}
 use Rattle.scons_top.proofs.Stepping.{comes_as, leaves_as, faults_as, alone_at, refuses, reports_refused, usage_told, usage_reported}
 use Rattle.std.proofs.Common.{inl, inr}
 use Rattle.scons_top.proofs.top.scons.Goals as goal
@@ -56,3 +57,9 @@ returns-in-Ok-clause-bytes g c = λ t. report_bytes _ _ c.in-Ok.report c.in-Ok.e
 
 pub returns-in-Err-clause-bytes : goal.returns-in-Err-clause-bytes
 returns-in-Err-clause-bytes g c = λ t. stopped_bytes _ _ _ c.ended.result c.ended.ensures.at c.ended.ensures.alone (c.in-Err.ensures.bytes t)
+
+pub returns-in-Ok-clause-unknown : goal.returns-in-Ok-clause-unknown
+returns-in-Ok-clause-unknown g c = λ said is word has. none_told _ word c.in-Ok.ensures.late has
+
+pub returns-in-Err-clause-unknown : goal.returns-in-Err-clause-unknown
+returns-in-Err-clause-unknown g c = λ said is word has. c.in-Err.ensures.unknown said is word (told_alone _ _ word c.ended.ensures.alone has)

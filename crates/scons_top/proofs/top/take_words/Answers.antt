@@ -2,6 +2,7 @@ use Rattle.scons_top.proofs.Opening.{words_end, load_ends}
 use Rattle.scons_top.specs.Cleaned.{RunCleans}
 use Rattle.scons_top.specs.declared.step.Step.TheVariants as step
 use Rattle.scons_top.proofs.Stepping.{words_at, ends_exit, refused_words, not_refused, usage_words, usage_load, usage_run, load_comes, run_comes, none_loads, not_words, past_load, past_run}
+use Rattle.scons_top.proofs.Asking.{unknown_else, unknown_said}
 use Rattle.scons_top.proofs.Stopping.{runs_by, steps_here}
 use Rattle.std.proofs.Common.{inl, subst}
 use Rattle.world_api.proofs.Looking.{looks_same}
@@ -112,3 +113,13 @@ returns-in-Some-clause-bytes g c = λ t. load_ends _ c.load.result c.load.ensure
 
 pub returns-clause-bytes : goal.returns-clause-bytes
 returns-clause-bytes g c = c.run.ensures.bytes
+
+pub returns-in_err-words-clause-unknown : goal.returns-in_err-words-clause-unknown
+returns-in_err-words-clause-unknown g c = λ said is. unknown_else said step.Words c.from_residual.result (λ word h. h) (returns-in_err-words-clause-ends g c)
+
+pub returns-in-Some-clause-unknown : goal.returns-in-Some-clause-unknown
+returns-in-Some-clause-unknown g c = λ said is. unknown_else said step.Load c.load.result (λ word h. h) c.load.ensures.ends
+
+pub returns-clause-unknown : goal.returns-clause-unknown
+returns-clause-unknown g c = λ said is.
+    unknown_said c.in_ok-words.words said c.run.result (words_said (read c.args.words.now) c.in_ok-words.words said c.in_ok-words.ensures.ok is) c.run.ensures.unknown
