@@ -26,7 +26,7 @@ use Rattle.scons_top.specs.declared.report.Top.TheVariants as top
 use Rattle.scons_top.specs.declared.step.Step.TheVariants as step
 use Rattle.scons_top.specs.declared.stop.Stop.{Stop}
 use Rattle.scons_top.specs.declared.stop.Stop.TheVariants as stop
-use Rattle.scons_top.specs.Asked.{asked_of, is_target, is_target_at, IsToldUnknown, StopsUnknown, IsNoPath, IsUnknown, IsUnknownAs, IsUnknownOf, IsWord, IsWordIn, NamesNone, StopsFor}
+use Rattle.scons_top.specs.Asked.{asked_of, is_target, is_target_at, IsReadAs, IsToldUnknown, StopsUnknown, IsNoPath, IsUnknown, IsUnknownAs, IsUnknownOf, IsWord, IsWordIn, NamesNone, StopsFor}
 use Rattle.scons_words.specs.declared.words.Words.{Words}
 use Rattle.rule_graph.specs.declared.wish.Wish.{Wish}
 use Rattle.scons_top.specs.declared.report.Report.{Report}
@@ -155,6 +155,10 @@ pub target_spelled : (g : RuleGraph) (word above path spelled : List ℕ) → pa
     → is_target g (spelling g.top word) ≡ false
 target_spelled g word above path spelled is at spells h =
     subst (λ (p : List ℕ). is_target g p ≡ false) (spells ∙ ap (λ (t : List ℕ). spelling t path) at ∙ ap (λ (p : List ℕ). spelling g.top p) is) h
+
+-- a word that was read as a path is that path
+pub read_as : (word path : List ℕ) (found : Option (List ℕ)) → found ≡ Some path → IsReadAs word found → path ≡ word
+read_as word path found is read = (subst (IsReadAs word) is read).0
 
 some_map : {A B : Type 0} (f : A → B) (o : Option A) → is_some (option_map f o) ≡ is_some o
 some_map f None = refl
