@@ -10,3 +10,7 @@ mod Opening
 mod Stopping
 mod Shown
 mod Asking
+mod Marking
+mod Printing
+mod Serving
+mod Telling

@@ -5,10 +5,13 @@ pub mod Cleaned
 pub mod Endings
 pub mod Faults
 pub mod Foreign
+pub mod Printed
 pub mod Requested
+pub mod RunLines
 pub mod Steps
 pub mod Stopping
 pub mod Stops
 pub mod Texts
+pub mod Told
 pub mod Trees
 pub mod Watching

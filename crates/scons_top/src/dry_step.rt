@@ -7,8 +7,10 @@ ghost use Rattle.world_api.specs.Statuses.{HasStatus};
 ghost use Rattle.scons_report.specs.Causes.{HasListCause};
 ghost use Rattle.sign_store.specs.Reached.{HasFaultCause};
 ghost use Rattle.scons_top.specs.Endings.{ListEnds, AddsUnprinted};
+ghost use Rattle.scons_top.specs.Printed.{ServePrints};
 ghost use Rattle.scons_top.specs.Steps.{ComesAt, IsListingStep, RunEndsAt};
 ghost use Rattle.scons_top.specs.Stops.{SinkReports, Reports, top_of};
+ghost use Rattle.scons_top.specs.Told.{TellsOrStops};
 ghost use Rattle.scons_top.specs.Watching.{Watches};
 
 use crate::build_step::nodes_of;
@@ -43,6 +45,8 @@ pub(crate) fn list_requests<W: World, O: Sink, E: Sink>(
     ensures bytes { RunByBytes W.meaning at.new world.old world.new result }
     ensures watches { Watches W.meaning world.old world.new }
     ensures reports { Reports W.meaning O.meaning E.meaning world.old out.old err.old world.new out.new err.new result }
+    ensures prints { ServePrints W.meaning O.meaning words.now at.new graph.old requests.now world.old out.old world.new out.new result }
+    ensures tells { TellsOrStops E.meaning err.old err.new result }
     ensures faults { IfOk result (λ report. EarlyOnlyIf ⊥ report.faults) }
     ensures status { IfOk result (λ report. HasStatus report.status report.faults) }
 {
@@ -96,7 +100,7 @@ fn tell_rules<O: Sink>(
 ) -> Result<Report, Stop>
     ensures ends { RunEndsAt Step.Listing result }
     ensures reports { SinkReports O.meaning out.old out.new result }
-    ensures faults { IfOk result (λ report. EarlyOnlyIf ⊥ report.faults) }
+    ensures faults { IfOk result (λ report. report.faults ≡ []) }
     ensures status { IfOk result (λ report. HasStatus report.status report.faults) }
 {
     for rule in rules {
@@ -129,6 +133,8 @@ pub(crate) fn end_with<O: Sink, E: Sink>(
     ensures faults { IfOk result (λ report. EarlyOnlyIf ⊥ report.faults) }
     ensures status { IfOk result (λ report. HasStatus report.status report.faults) }
     ensures reports { ListEnds O.meaning E.meaning fault out.old err.old out.new err.new result }
+    ensures out { O.meaning.tells out.new → O.meaning.tells out.old }
+    ensures tells { TellsOrStops E.meaning err.old err.new result }
 {
     let text = fault_text(alloc, &fault)?;
     let mut faults = Listing::empty(alloc);

@@ -1,3 +1,6 @@
+use Rattle.std.specs.Prelude.{Ok}
+use Rattle.scons_top.proofs.Serving.{cut_ended, run_at, run_ended}
+use Rattle.scons_top.proofs.Telling.{tells_stopped}
 use Rattle.scons_top.proofs.Opening.{report_bytes, stopped_bytes}
 use Rattle.scons_top.proofs.Clearing.{cleans_report, cleans_stop}
 use Rattle.scons_top.proofs.Asking.{none_told, told_alone}
@@ -63,3 +66,21 @@ returns-in-Ok-clause-unknown g c = λ said is word has. none_told _ word c.in-Ok
 
 pub returns-in-Err-clause-unknown : goal.returns-in-Err-clause-unknown
 returns-in-Err-clause-unknown g c = λ said is word has. c.in-Err.ensures.unknown said is word (told_alone _ _ word c.ended.ensures.alone has)
+
+pub returns-in-Ok-clause-prints : goal.returns-in-Ok-clause-prints
+returns-in-Ok-clause-prints g c = λ said is.
+    run_at g.W.Disk.meaning g.O.Sink.meaning said _ _ c.args.world.now c.take_words.new.world c.args.out.now c.take_words.new.out (Ok c.in-Ok.report) c.in-Ok.ensures.ends.ends (c.in-Ok.ensures.prints said is)
+
+pub returns-in-Err-clause-prints : goal.returns-in-Err-clause-prints
+returns-in-Err-clause-prints g c = λ said is.
+    let m = g.W.Disk.meaning in
+    let p = g.O.Sink.meaning in
+    let old = c.args.world.now in
+    let new = c.take_words.new.world in
+    let out = c.args.out.now in
+    let after = c.take_words.new.out in
+    run_at m p said _ _ old new out after (Ok c.ended.result) c.ended.ensures.at
+    (run_ended m p said c.take_words.new.at old new out after c.in-Err.stop c.ended.result (cut_ended c.in-Err.stop c.ended.result c.ended.ensures.told) (c.in-Err.ensures.prints said is))
+
+pub returns-in-Err-clause-tells : goal.returns-in-Err-clause-tells
+returns-in-Err-clause-tells g c = tells_stopped g.E.Sink.meaning _ _ c.ended.new.err c.ended.result c.in-Err.ensures.tells c.ended.ensures.tells

@@ -1,3 +1,6 @@
+use Rattle.scons_top.specs.Printed.{RunPrints}
+use Rattle.scons_top.proofs.Serving.{run_load, run_words}
+use Rattle.scons_top.proofs.Telling.{none_told, stops_silent}
 use Rattle.scons_top.proofs.Opening.{words_end, load_ends}
 use Rattle.scons_top.specs.Cleaned.{RunCleans}
 use Rattle.scons_top.specs.declared.step.Step.TheVariants as step
@@ -123,3 +126,26 @@ returns-in-Some-clause-unknown g c = λ said is. unknown_else said step.Load c.l
 pub returns-clause-unknown : goal.returns-clause-unknown
 returns-clause-unknown g c = λ said is.
     unknown_said c.in_ok-words.words said c.run.result (words_said (read c.args.words.now) c.in_ok-words.words said c.in_ok-words.ensures.ok is) c.run.ensures.unknown
+
+pub returns-in_err-words-clause-prints : goal.returns-in_err-words-clause-prints
+returns-in_err-words-clause-prints g c = λ said is.
+    run_words g.W.Disk.meaning g.O.Sink.meaning said c.args.world.now c.args.world.now c.args.out.now c.from_residual.result
+
+pub returns-in-Some-clause-prints : goal.returns-in-Some-clause-prints
+returns-in-Some-clause-prints g c = λ said is.
+    let words = c.in_ok-words.words in
+    let world = c.args.world.now in
+    subst (λ (s : Words). RunPrints g.W.Disk.meaning g.O.Sink.meaning s step.Load world c.args.out.now world c.load.new.out c.load.result)
+    (words_said (read c.args.words.now) words said c.in_ok-words.ensures.ok is)
+    (run_load g.W.Disk.meaning g.O.Sink.meaning words c.in-Some.rules world world c.args.out.now c.load.new.out c.load.result c.in-Some.is c.load.ensures.prints)
+
+pub returns-clause-prints : goal.returns-clause-prints
+returns-clause-prints g c = λ said is.
+    subst (λ (s : Words). RunPrints g.W.Disk.meaning g.O.Sink.meaning s c.run.new.at c.args.world.now c.args.out.now c.run.new.world c.run.new.out c.run.result)
+    (words_said (read c.args.words.now) c.in_ok-words.words said c.in_ok-words.ensures.ok is) c.run.ensures.prints
+
+pub returns-in_err-words-clause-tells : goal.returns-in_err-words-clause-tells
+returns-in_err-words-clause-tells g c = stops_silent g.E.Sink.meaning c.args.err.now _ c.from_residual.result c.from_residual.ensures.1
+
+pub returns-in-Some-clause-tells : goal.returns-in-Some-clause-tells
+returns-in-Some-clause-tells g c = none_told g.E.Sink.meaning c.args.err.now c.load.result c.load.ensures.faults
