@@ -40,6 +40,7 @@ module _ {X : Type 0} (p : X → Bool) where
       first : (a b : Bool) → (a && b) ≡ true → a ≡ true
       first true b is = refl
       first false b is = is
+
       second : (a b : Bool) → (a && b) ≡ true → b ≡ true
       second true b is = is
       second false b is = absurd (let no = is in cc)

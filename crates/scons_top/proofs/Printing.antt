@@ -1,6 +1,10 @@
 -- What stands printed on standard output as a run goes on.
-use Rattle.std.proofs.Common.{◌≡◌, ◌∙◌, ◌⊎◌, ◌<◌, ◌+◌, inl, inr, sym, subst, refl, ap, ℕ, List, [], ◌∷◌, ◌++◌, append-nil, append_assoc, length, get_or, take, drop}
-use Rattle.std.specs.List.{flat_map}
+use Rattle.std.proofs.Common.{◌≡◌, ◌∙◌, ◌⊎◌, ◌<◌, ◌+◌, inl, inr, sym, subst, refl, ap, ℕ, List, [], ◌∷◌, ◌++◌, append-nil, append_assoc, length, get_or, take, drop, ◌≤◌, Option, Some, None, arith}
+use Rattle.std.specs.List.{flat_map, slice_get}
+use Rattle.std.proofs.lemmas.Option.{slice_get_cases}
+use Rattle.rule_graph.specs.Graphs.{RuleGraph}
+use Rattle.rule_graph.specs.declared.rule.Rule.{Rule}
+use Rattle.report_texts.specs.Lines.{rule_text}
 use Rattle.std.proofs.lemmas.Grind.{flat_map-append}
 use Rattle.std.proofs.lemmas.List.{take_more, take-append-drop}
 use Rattle.std.specs.Prelude.{Result, Ok, Err, IsErrAnd}
@@ -8,7 +12,7 @@ use Rattle.world_api.specs.Printed.{SinkMeaning}
 use Rattle.world_api.specs.Printing.{IsPrefixed, Prints, PrintsSome, Cuts}
 use Rattle.scons_host.specs.Prints.{Prints as HostPrints}
 use Rattle.scons_top.specs.Printed.{Printed, PrintsUpTo, PrintsUnless, IsPrintedOf, PrintsSuch, IsCutBy, ReadPrints, IsReadText, IsOpeningText}
-use Rattle.scons_top.specs.RunLines.{progress}
+use Rattle.scons_top.specs.RunLines.{line_by, progress}
 use Rattle.report_texts.specs.Texts.{reading_text, read_text}
 use Rattle.scons_top.specs.declared.stop.Stop.{Stop}
 use Rattle.scons_words.specs.declared.words.Words.{Words}
@@ -63,6 +67,9 @@ module _ {S : Type 0} (p : SinkMeaning S) where
 
   pub some_all : (a b : S) (text : List ℕ) → Printed p a b text → PrintsSome p a b text
   some_all a b text h = record { told = h.told; printed = λ t. prefixed_all (p.text a) (p.text b) text (h.whole t) }
+
+  pub some_as : (a b : S) (text same : List ℕ) → text ≡ same → PrintsSome p a b text → PrintsSome p a b same
+  some_as a b text same is h = subst (PrintsSome p a b) is h
 
   pub some_more : (a b : S) (text more : List ℕ) → PrintsSome p a b text → PrintsSome p a b (text ++ more)
   some_more a b text more h = record { told = h.told; printed = λ t. prefixed_more (p.text a) (p.text b) text more (h.printed t) }
@@ -197,14 +204,26 @@ module _ {O : Type 0} (p : SinkMeaning O) (said : Words) where
 
 -- lines of one thing after another
 
-pub lines_next : {X : Type 0} (f : X → List ℕ) (xs : List X) (i : ℕ) (x : X) → i < length xs → x ≡ get_or xs i x → flat_map f (take i xs) ++ f x ≡ flat_map f (take (i + 1) xs)
-lines_next f xs i x lt at =
+pub lines_next : {X : Type 0} (f : X → List ℕ) (xs : List X) (i : ℕ) (d x : X) → i < length xs → x ≡ get_or xs i d → flat_map f (take i xs) ++ f x ≡ flat_map f (take (i + 1) xs)
+lines_next f xs i d x lt at =
     ap (λ y. flat_map f (take i xs) ++ f y) at
-    ∙ sym (ap (flat_map f) (take_more xs i x lt) ∙ flat_map-append f (take i xs) (get_or xs i x ∷ []) ∙ ap (λ l. flat_map f (take i xs) ++ l) (append-nil (f (get_or xs i x))))
+    ∙ sym (ap (flat_map f) (take_more xs i d lt) ∙ flat_map-append f (take i xs) (get_or xs i d ∷ []) ∙ ap (λ l. flat_map f (take i xs) ++ l) (append-nil (f (get_or xs i d))))
 
 -- the lines up to the next one, and what is behind it
-pub lines_before : {X : Type 0} (f : X → List ℕ) (xs : List X) (i : ℕ) (x : X) → i < length xs → x ≡ get_or xs i x
+pub lines_before : {X : Type 0} (f : X → List ℕ) (xs : List X) (i : ℕ) (d x : X) → i < length xs → x ≡ get_or xs i d
     → flat_map f xs ≡ (flat_map f (take i xs) ++ f x) ++ flat_map f (drop (i + 1) xs)
-lines_before f xs i x lt at =
+lines_before f xs i d x lt at =
     sym (ap (flat_map f) (take-append-drop (i + 1) xs)) ∙ flat_map-append f (take (i + 1) xs) (drop (i + 1) xs)
-    ∙ ap (λ l. l ++ flat_map f (drop (i + 1) xs)) (sym (lines_next f xs i x lt at))
+    ∙ ap (λ l. l ++ flat_map f (drop (i + 1) xs)) (sym (lines_next f xs i d x lt at))
+
+-- all of them are gone over
+pub lines_all : {X : Type 0} (f : X → List ℕ) (xs : List X) (i : ℕ) → take i xs ≡ xs → flat_map f (take i xs) ≡ flat_map f xs
+lines_all f xs i is = ap (flat_map f) is
+
+-- the lines of a rule that a graph has
+pub line_there : (g : RuleGraph) (rule : ℕ) (text : List ℕ) → rule < length g.rules → ((named : Rule) → slice_get g.rules rule ≡ Some named → text ≡ rule_text g named) → text ≡ line_by g (slice_get g.rules rule)
+line_there g rule text lt is = by (slice_get_cases g.rules rule).1
+  where
+    by : ((x : Rule) × (rule < length g.rules) × (slice_get g.rules rule ≡ Some x) × (get_or g.rules rule x ≡ x)) ⊎ ((length g.rules ≤ rule) × (slice_get g.rules rule ≡ None)) → text ≡ line_by g (slice_get g.rules rule)
+    by (inl (x, there, at, same)) = is x at ∙ sym (ap (line_by g) at)
+    by (inr (past, none)) = absurd (omega (arith, lt, past))

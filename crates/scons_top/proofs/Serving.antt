@@ -1,8 +1,8 @@
 -- What stands printed of a build, and of a run that opened before it.
 use Rattle.std.proofs.Common.{◌≡◌, ◌≢◌, ◌∙◌, ◌⊎◌, inl, inr, sym, subst, refl, ap, ℕ, Bool, true, false, List, [], ◌∷◌, ◌++◌, Contains, length, map, append_assoc, arith}
-use Rattle.std.specs.Prelude.{◌==◌, Option, Some, IfSome, Result, Ok, Err, IsErrAnd}
+use Rattle.std.specs.Prelude.{◌==◌, Option, Some, IfOk, IfSome, Result, Ok, Err, IsErrAnd}
 use Rattle.std.proofs.lemmas.Bool.{false≢true, eqb-true}
-use Rattle.std.proofs.lemmas.List.Elements.{Contains-push}
+use Rattle.std.proofs.lemmas.List.Elements.{Contains-append_left, Contains-push}
 use Rattle.scons_base.specs.declared.ids.NodeId.{NodeId}
 use Rattle.scons_base.specs.declared.ids.RuleId.{RuleId}
 use Rattle.world_api.specs.Around.{Around}
@@ -22,12 +22,13 @@ use Rattle.build_run.specs.Output.{BuildPrints, HasRunPrinting}
 use Rattle.build_run.specs.declared.end.BuildEnd.{BuildEnd}
 use Rattle.scons_words.specs.declared.words.Words.{Words}
 use Rattle.scons_top.specs.Builds.{BeginsStore, wanted_by}
-use Rattle.scons_top.specs.Endings.{ClosesWith}
-use Rattle.scons_top.specs.Printed.{Printed, PrintsUpTo, PrintsUnless, IsPrintedOf, PrintsSuch, IsCutShort, IsCutBy, IsCut, LosesOut, AreFaultsOf, IsBuildText, IsBuildingText, IsServedText, IsOpeningText, IsBehindText, IsReadText, IsHelpText, IsRunText, Surely, ServePrints, RunPrints}
+use Rattle.world_api.specs.declared.refusal.Fault.{Fault}
+use Rattle.scons_top.specs.Endings.{AddsUnprinted, ClosesWith}
+use Rattle.scons_top.specs.Printed.{Printed, PrintsUpTo, PrintsUnless, IsPrintedOf, PrintsSuch, IsCutShort, IsCutBy, IsCut, LosesOut, AreFaultsOf, IsBuildText, IsBuildingText, IsServedText, IsOpeningText, IsBehindText, IsReadText, IsHelpText, IsRunText, Surely, FaultPrints, ServePrints, RunPrints}
 use Rattle.scons_top.specs.Asked.{asked_of, words_asked}
 use Rattle.scons_top.specs.Requested.{AskForNodes, nodes_asked}
 use Rattle.scons_top.specs.Steps.{IsReadingStep, IsTold, ServesAt}
-use Rattle.scons_top.specs.RunLines.{progress, options_of, closing_text, ending_text, requests_text}
+use Rattle.scons_top.specs.RunLines.{progress, options_of, closing_text, ending_text, requests_text, rules_text}
 use Rattle.scons_top.specs.Stops.{top_of}
 use Rattle.scons_top.specs.declared.report.Report.{Report}
 use Rattle.scons_top.specs.declared.report.Top.{Top}
@@ -39,7 +40,7 @@ use Rattle.scons_top.specs.declared.stop.Stop.{Stop}
 use Rattle.scons_top.specs.declared.stop.Stop.TheVariants as stop
 use Rattle.scons_top.proofs.Building.{around_asked, records_kept}
 use Rattle.scons_top.proofs.Causing.{in_tops}
-use Rattle.scons_top.proofs.Printing.{printed_none, unless_some, such_whole, such_some, such_weaker, such_joined, of_joined, prefixed_behind}
+use Rattle.scons_top.proofs.Printing.{printed_none, printed_then, some_all, some_behind, unless_some, such_whole, such_some, such_weaker, such_joined, of_joined, prefixed_behind}
 
 -- which lines end it
 
@@ -58,14 +59,14 @@ ending_some said g requests started (f ∷ found) slice same is = ap (λ (faults
 module _ {W O : Type 0} (m : Meaning W) (p : SinkMeaning O) (said : Words) (g : RuleGraph) (requests : List Request) (old new : W) (out : O) where
   pub serve_unopened : (r : Result Report Stop) → ServePrints m p said step.Store g requests old out new out r
   serve_unopened r =
-      such_whole p (Surely m said new) (IsServedText m p said step.Store g requests old new r) (IsCut r) out out [] (printed_none p out) refl
+      such_whole p (Surely m said step.Store new) (IsServedText m p said step.Store g requests old new r) (IsCut r) out out [] (printed_none p out) refl
 
   pub serve_unbuilt : (after : O) (r : Result Report Stop) (s : Stop) → IsErrAnd r (λ x. x ≡ s) → IsCutBy s → PrintsSome p out after (progress said building_text)
       → ServePrints m p said step.Building g requests old out new after r
   serve_unbuilt after (Ok value) s is cut h = absurd is
   serve_unbuilt after (Err x) s is cut h =
       let short = subst IsCutBy (sym is) cut in
-      such_some p (Surely m said new) (IsServedText m p said step.Building g requests old new (Err x)) (IsCut (Err x)) out after (progress said building_text) h (short, refl) short
+      such_some p (Surely m said step.Building new) (IsServedText m p said step.Building g requests old new (Err x)) (IsCut (Err x)) out after (progress said building_text) h (short, refl) short
 
   -- where trees are shown
   pub serve_treed : (after : O) (report : Report) → said.tree ≡ true → (p.tells after → p.tells out) → ServePrints m p said step.Building g requests old out new after (Ok report)
@@ -82,7 +83,7 @@ cut_lost : (answer : BuildEnd) (written : Result (Unit {0}) Stop) (report : Repo
 cut_lost answer written report memory closes (inl wanting) = λ ne. absurd (false≢true (sym (memory ne) ∙ wanting))
 cut_lost answer written report memory closes (inr has) = λ ne. contains_closed answer.faults written report.faults (closes ne) has
 
-cut_unwritten : (found : List BuildFault) (s : Stop) (report : Report) → (report.status ≢ 3 → ClosesWith found (Err s) report.faults) → IsCutShort report
+pub cut_unwritten : (found : List BuildFault) (s : Stop) (report : Report) → (report.status ≢ 3 → ClosesWith found (Err s) report.faults) → IsCutShort report
 cut_unwritten found s report closes = λ ne. subst (λ (fs : List Top). Contains fs top.OutFault) (sym (closes ne)) (Contains-push (map top_of found) top.OutFault)
 
 faults_closed : (found : List BuildFault) (written : Result (Unit {0}) Stop) (faults : List Top) → ClosesWith found written faults → AreFaultsOf found faults
@@ -159,9 +160,9 @@ module _ {W O : Type 0} (m : Meaning W) (p : SinkMeaning O) (said : Words) where
   pub run_read : (at : Step) (old new : W) (out after : O) (r : Result Report Stop) (s : Stop) → IsReadingStep at → IsErrAnd r (λ x. x ≡ s)
       → PrintsSuch p (Unit {0}) (IsReadText said at) (IsCutBy s) out after → RunPrints m p said at old out new after r
   run_read step.Top old new out after (Err x) s reads is h =
-      such_weaker p (Unit {0}) (Surely m said new) (IsReadText said step.Top) (IsReadText said step.Top) (IsCutBy s) (IsCutBy x) out after (λ so. tt) (λ so text kind. kind) (subst IsCutBy (sym is)) h
+      such_weaker p (Unit {0}) (Unit {0}) (IsReadText said step.Top) (IsReadText said step.Top) (IsCutBy s) (IsCutBy x) out after (λ so. tt) (λ so text kind. kind) (subst IsCutBy (sym is)) h
   run_read step.Reading old new out after (Err x) s reads is h =
-      such_weaker p (Unit {0}) (Surely m said new) (IsReadText said step.Reading) (IsReadText said step.Reading) (IsCutBy s) (IsCutBy x) out after (λ so. tt) (λ so text kind. kind) (subst IsCutBy (sym is)) h
+      such_weaker p (Unit {0}) (Unit {0}) (IsReadText said step.Reading) (IsReadText said step.Reading) (IsCutBy s) (IsCutBy x) out after (λ so. tt) (λ so text kind. kind) (subst IsCutBy (sym is)) h
   run_read step.Top old new out after (Ok report) s reads is h = absurd is
   run_read step.Reading old new out after (Ok report) s reads is h = absurd is
   run_read step.Words old new out after r s reads is h = absurd reads
@@ -174,20 +175,20 @@ module _ {W O : Type 0} (m : Meaning W) (p : SinkMeaning O) (said : Words) where
   run_read step.Building old new out after r s reads is h = absurd reads
 
   -- with `-h`
-  help_such : (new : W) (mid after : O) (text : List ℕ) (r : Result Report Stop) → PrintsUpTo p text mid after r → PrintsSuch p (Surely m said new) (λ t. t ≡ text) (IsCut r) mid after
-  help_such new mid after text (Ok report) h = such_whole p (Surely m said new) (λ t. t ≡ text) (IsCut (Ok report)) mid after text h refl
-  help_such new mid after text (Err s) h = such_some p (Surely m said new) (λ t. t ≡ text) (IsCut (Err s)) mid after text h.1 refl h.0
+  help_such : (new : W) (mid after : O) (text : List ℕ) (r : Result Report Stop) → PrintsUpTo p text mid after r → PrintsSuch p (Unit {0}) (λ t. t ≡ text) (IsCut r) mid after
+  help_such new mid after text (Ok report) h = such_whole p (Unit {0}) (λ t. t ≡ text) (IsCut (Ok report)) mid after text h refl
+  help_such new mid after text (Err s) h = such_some p (Unit {0}) (λ t. t ≡ text) (IsCut (Err s)) mid after text h.1 refl h.0
 
   pub run_help : (g : RuleGraph) (old new : W) (out mid after : O) (r : Result Report Stop) → PrintsSuch p (Unit {0}) (IsOpeningText said) ⊥ out mid → PrintsUpTo p (help_text g.helps) mid after r
       → RunPrints m p said step.Help old out new after r
   run_help g old new out mid after r opens h =
-      such_joined p (Unit {0}) (Surely m said new) (IsOpeningText said) (λ t. t ≡ help_text g.helps) (IsHelpText said) (IsCut r) out mid after (λ so. tt)
+      such_joined p (Unit {0}) (Unit {0}) (IsOpeningText said) (λ t. t ≡ help_text g.helps) (IsHelpText said) (IsCut r) out mid after (λ so. tt)
       (λ first second kind is. record { opening = first; opens = kind; graph = g; whole = ap (λ t. first ++ t) is }) opens (help_such new mid after (help_text g.helps) r h)
 
   -- where what is requested isn't known
   pub run_asked : (old new : W) (out after : O) (r : Result Report Stop) → PrintsSuch p (Unit {0}) (IsOpeningText said) ⊥ out after → RunPrints m p said step.Requests old out new after r
   run_asked old new out after r opens =
-      such_weaker p (Unit {0}) (Surely m said new) (IsOpeningText said) (IsOpeningText said) ⊥ (IsCut r) out after (λ so. tt) (λ so text kind. kind) (λ no. absurd no) opens
+      such_weaker p (Unit {0}) (Unit {0}) (IsOpeningText said) (IsOpeningText said) ⊥ (IsCut r) out after (λ so. tt) (λ so text kind. kind) (λ no. absurd no) opens
 
 -- a build behind a look
 
@@ -213,14 +214,38 @@ build_looked : {W O : Type 0} (m : Meaning W) (p : SinkMeaning O) (said : Words)
     → m.around b ≡ m.around a → image_in (m.seen b) ≡ image_in (m.seen a) → IsBuildText m p said g requests b new report text → IsBuildText m p said g requests a new report text
 build_looked m p said g requests a b new report text around records h =
     let from : BuiltFrom m p said g requests (m.around b) (image_in (m.seen b)) new report text = record {
-      begun = h.begun; built = h.built; before = h.before; after = h.after; around = h.around; around_behind = h.around_behind; behind = h.behind;
-      is_ended = h.is_ended; builds = h.builds; grown = h.grown; started = h.started; found = h.found; faults = h.faults; whole = h.whole;
+      begun = h.begun;
+      built = h.built;
+      before = h.before;
+      after = h.after;
+      around = h.around;
+      around_behind = h.around_behind;
+      behind = h.behind;
+      is_ended = h.is_ended;
+      builds = h.builds;
+      grown = h.grown;
+      started = h.started;
+      found = h.found;
+      faults = h.faults;
+      whole = h.whole;
     } in
     let one = subst (λ (x : Around). BuiltFrom m p said g requests x (image_in (m.seen b)) new report text) around from in
     let two = subst (λ (map : Map). BuiltFrom m p said g requests (m.around a) map new report text) records one in
     record {
-      begun = two.begun; built = two.built; before = two.before; after = two.after; around = two.around; around_behind = two.around_behind; behind = two.behind;
-      is_ended = two.is_ended; builds = two.builds; grown = two.grown; started = two.started; found = two.found; faults = two.faults; whole = two.whole;
+      begun = two.begun;
+      built = two.built;
+      before = two.before;
+      after = two.after;
+      around = two.around;
+      around_behind = two.around_behind;
+      behind = two.behind;
+      is_ended = two.is_ended;
+      builds = two.builds;
+      grown = two.grown;
+      started = two.started;
+      found = two.found;
+      faults = two.faults;
+      whole = two.whole;
     }
 
 building_looked : {W O : Type 0} (m : Meaning W) (p : SinkMeaning O) (said : Words) (g : RuleGraph) (requests : List Request) (a b new : W) (r : Result Report Stop) (text : List ℕ)
@@ -229,56 +254,48 @@ building_looked m p said g requests a b new (Err s) text around records h = h
 building_looked m p said g requests a b new (Ok report) text around records (inr early) = inr early
 building_looked m p said g requests a b new (Ok report) text around records (inl h) = inl (build_looked m p said g requests a b new report text around records h)
 
-served_looked : {W O : Type 0} (m : Meaning W) (p : SinkMeaning O) (said : Words) (at : Step) (g : RuleGraph) (requests : List Request) (a b new : W) (r : Result Report Stop) (text : List ℕ)
-    → m.around b ≡ m.around a → image_in (m.seen b) ≡ image_in (m.seen a) → IsServedText m p said at g requests b new r text → IsServedText m p said at g requests a new r text
-served_looked m p said step.Building g requests a b new r text around records h = building_looked m p said g requests a b new r text around records h
-served_looked m p said step.Store g requests a b new r text around records h = h
-served_looked m p said step.Words g requests a b new r text around records h = h
-served_looked m p said step.Load g requests a b new r text around records h = h
-served_looked m p said step.Top g requests a b new r text around records h = h
-served_looked m p said step.Reading g requests a b new r text around records h = h
-served_looked m p said step.Help g requests a b new r text around records h = h
-served_looked m p said step.Requests g requests a b new r text around records h = h
-served_looked m p said step.Cleaning g requests a b new r text around records h = h
-served_looked m p said step.Listing g requests a b new r text around records h = h
-
 -- what a run printed that opened, and then served what was requested
 
 module _ {W O : Type 0} (m : Meaning W) (p : SinkMeaning O) (said : Words) (defaults : List Wish) (g : RuleGraph) (requests : List Request) (old mid new : W) (out between after : O)
     (r : Result Report Stop) (looks : Looks m old mid) (told : m.tells new → m.tells mid) (idle : m.tells old → (m.around old).running ≡ [])
     (words : words_asked requests ≡ asked_of defaults said.requested) (nodes : AskForNodes g requests) (opens : PrintsSuch p (Unit {0}) (IsOpeningText said) ⊥ out between) where
-  behind_of : (at : Step) (first second : List ℕ) → m.tells new → IsOpeningText said first → IsServedText m p said at g requests mid new r second
-      → IsBehindText said (λ g requests rest. IsServedText m p said at g requests old new r rest) (first ++ second)
-  behind_of at first second tells opening is =
-      let here = told tells in
-      let around = around_asked (m.around old) (m.around mid) (idle (looks.told.told here)) (looks.around here) in
-      record {
-        opening = first;
-        opens = opening;
-        defaults = defaults;
-        graph = g;
-        requests = requests;
-        words = words;
-        nodes = nodes;
-        rest = second;
-        is = served_looked m p said at g requests old mid new r second around (records_kept m old mid (looks.banks here)) is;
-        whole = refl;
-      }
+  looked : Surely m said step.Building new → (rest : List ℕ) → IsServedText m p said step.Building g requests mid new r rest → IsServedText m p said step.Building g requests old new r rest
+  looked so rest is =
+      let here = told so.0 in
+      building_looked m p said g requests old mid new r rest (around_asked (m.around old) (m.around mid) (idle (looks.told.told here)) (looks.around here))
+      (records_kept m old mid (looks.banks here)) is
 
-  joins : (at : Step) → PrintsSuch p (Surely m said new) (IsServedText m p said at g requests mid new r) (IsCut r) between after
-      → PrintsSuch p (Surely m said new) (IsBehindText said (λ g requests rest. IsServedText m p said at g requests old new r rest)) (IsCut r) out after
-  joins at h = record {
+  behind_of : (P : RuleGraph → List Request → List ℕ → Type 0) (first second : List ℕ) → IsOpeningText said first → P g requests second → IsBehindText said P (first ++ second)
+  behind_of P first second opening is = record {
+    opening = first;
+    opens = opening;
+    defaults = defaults;
+    graph = g;
+    requests = requests;
+    words = words;
+    nodes = nodes;
+    rest = second;
+    is = is;
+    whole = refl;
+  }
+
+  joins : (where_so : Type 0) (Q : List ℕ → Type 0) (P : RuleGraph → List Request → List ℕ → Type 0) → (where_so → (rest : List ℕ) → Q rest → P g requests rest)
+      → PrintsSuch p where_so Q (IsCut r) between after → PrintsSuch p where_so (IsBehindText said P) (IsCut r) out after
+  joins where_so Q P by h = record {
     told = λ t. opens.told (h.told t);
     such = λ so t.
-        of_joined p (IsOpeningText said) (IsServedText m p said at g requests mid new r) (IsBehindText said (λ g requests rest. IsServedText m p said at g requests old new r rest)) (IsCut r)
-        out between after (λ first second. behind_of at first second so.0) (opens.such tt (h.told t)) (h.such so t);
+        of_joined p (IsOpeningText said) Q (IsBehindText said P) (IsCut r) out between after (λ first second opening is. behind_of P first second opening (by so second is))
+        (opens.such tt (h.told t)) (h.such so t);
   }
 
   pub run_served : (at : Step) → ServesAt said at → ServePrints m p said at g requests mid between new after r → RunPrints m p said at old out new after r
-  run_served step.Building serves h = joins step.Building h
-  run_served step.Store serves h = joins step.Store h
+  run_served step.Building serves h =
+      joins (Surely m said step.Building new) (IsServedText m p said step.Building g requests mid new r) (λ g requests rest. IsServedText m p said step.Building g requests old new r rest) looked h
+  run_served step.Store serves h =
+      joins (Unit {0}) (IsServedText m p said step.Store g requests mid new r) (λ g requests rest. IsServedText m p said step.Store g requests old new r rest) (λ so rest is. is) h
+  run_served step.Listing serves h =
+      joins (Unit {0}) (IsServedText m p said step.Listing g requests mid new r) (λ g requests rest. IsServedText m p said step.Listing g requests old new r rest) (λ so rest is. is) h
   run_served step.Cleaning serves h = tt
-  run_served step.Listing serves h = tt
   run_served step.Words serves h = absurd serves
   run_served step.Load serves h = absurd serves
   run_served step.Top serves h = absurd serves
@@ -290,38 +307,70 @@ module _ {W O : Type 0} (m : Meaning W) (p : SinkMeaning O) (said : Words) (defa
 
 module _ {W O : Type 0} (m : Meaning W) (p : SinkMeaning O) (said : Words) where
   pub run_words : (old new : W) (out : O) (r : Result Report Stop) → RunPrints m p said step.Words old out new out r
-  run_words old new out r = such_whole p (Surely m said new) (IsRunText m p said step.Words old new r) (IsCut r) out out [] (printed_none p out) refl
+  run_words old new out r = such_whole p (Unit {0}) (IsRunText m p said step.Words old new r) (IsCut r) out out [] (printed_none p out) refl
 
   pub run_load : (rules : ℕ) (old new : W) (out after : O) (r : Result Report Stop) → said.load ≡ Some rules → PrintsUpTo p (load_text rules) out after r → RunPrints m p said step.Load old out new after r
   run_load rules old new out after (Ok report) is h =
-      such_whole p (Surely m said new) (IsRunText m p said step.Load old new (Ok report)) (IsCut (Ok report)) out after (load_text rules) h (loads is)
+      such_whole p (Unit {0}) (IsRunText m p said step.Load old new (Ok report)) (IsCut (Ok report)) out after (load_text rules) h (loads is)
     where
       loads : said.load ≡ Some rules → IfSome said.load (λ n. load_text rules ≡ load_text n)
       loads e = subst (λ (o : Option ℕ). IfSome o (λ n. load_text rules ≡ load_text n)) (sym e) refl
   run_load rules old new out after (Err s) is h =
-      such_some p (Surely m said new) (IsRunText m p said step.Load old new (Err s)) (IsCut (Err s)) out after (load_text rules) h.1 (loads is) h.0
+      such_some p (Unit {0}) (IsRunText m p said step.Load old new (Err s)) (IsCut (Err s)) out after (load_text rules) h.1 (loads is) h.0
     where
       loads : said.load ≡ Some rules → IfSome said.load (λ n. load_text rules ≡ load_text n)
       loads e = subst (λ (o : Option ℕ). IfSome o (λ n. load_text rules ≡ load_text n)) (sym e) refl
 
   ends_as : (at : Step) (old new : W) (s : Stop) (report : Report) (P : List ℕ → Type 0) (Q : List ℕ → Type 0) (out after : O) → ((text : List ℕ) → P text → Q text) → (IsCutBy s → IsCutShort report)
-      → PrintsSuch p (Surely m said new) P (IsCutBy s) out after → PrintsSuch p (Surely m said new) Q (IsCutShort report) out after
-  ends_as at old new s report P Q out after by cut h = such_weaker p (Surely m said new) (Surely m said new) P Q (IsCutBy s) (IsCutShort report) out after (λ so. so) (λ so. by) cut h
+      → PrintsSuch p (Surely m said at new) P (IsCutBy s) out after → PrintsSuch p (Surely m said at new) Q (IsCutShort report) out after
+  ends_as at old new s report P Q out after by cut h = such_weaker p (Surely m said at new) (Surely m said at new) P Q (IsCutBy s) (IsCutShort report) out after (λ so. so) (λ so. by) cut h
 
   built_ended : (old new : W) (s : Stop) (report : Report) (text : List ℕ) → (IsCutBy s → IsCutShort report)
       → IsBehindText said (λ g requests rest. IsServedText m p said step.Building g requests old new (Err s) rest) text
       → IsBehindText said (λ g requests rest. IsServedText m p said step.Building g requests old new (Ok report) rest) text
   built_ended old new s report text cut h = record {
-    opening = h.opening; opens = h.opens; defaults = h.defaults; graph = h.graph; requests = h.requests; words = h.words; nodes = h.nodes; rest = h.rest;
-    is = inr (cut h.is.0, h.is.1); whole = h.whole;
+    opening = h.opening;
+    opens = h.opens;
+    defaults = h.defaults;
+    graph = h.graph;
+    requests = h.requests;
+    words = h.words;
+    nodes = h.nodes;
+    rest = h.rest;
+    is = inr (cut h.is.0, h.is.1);
+    whole = h.whole;
+  }
+
+  list_ended : (old new : W) (s : Stop) (report : Report) (text : List ℕ) → (IsCutBy s → IsCutShort report)
+      → IsBehindText said (λ g requests rest. IsServedText m p said step.Listing g requests old new (Err s) rest) text
+      → IsBehindText said (λ g requests rest. IsServedText m p said step.Listing g requests old new (Ok report) rest) text
+  list_ended old new s report text cut h = record {
+    opening = h.opening;
+    opens = h.opens;
+    defaults = h.defaults;
+    graph = h.graph;
+    requests = h.requests;
+    words = h.words;
+    nodes = h.nodes;
+    rest = h.rest;
+    is = inr (inr (cut h.is.0, h.is.1));
+    whole = h.whole;
   }
 
   store_ended : (old new : W) (s : Stop) (report : Report) (text : List ℕ)
       → IsBehindText said (λ g requests rest. IsServedText m p said step.Store g requests old new (Err s) rest) text
       → IsBehindText said (λ g requests rest. IsServedText m p said step.Store g requests old new (Ok report) rest) text
   store_ended old new s report text h = record {
-    opening = h.opening; opens = h.opens; defaults = h.defaults; graph = h.graph; requests = h.requests; words = h.words; nodes = h.nodes; rest = h.rest;
-    is = h.is; whole = h.whole;
+    opening = h.opening;
+    opens = h.opens;
+    defaults = h.defaults;
+    graph = h.graph;
+    requests = h.requests;
+    words = h.words;
+    nodes = h.nodes;
+    rest = h.rest;
+    is = h.is;
+    whole = h.whole;
   }
 
   pub run_ended : (at : Step) (old new : W) (out after : O) (s : Stop) (report : Report) → (IsCutBy s → IsCutShort report) → RunPrints m p said at old out new after (Err s)
@@ -333,7 +382,7 @@ module _ {W O : Type 0} (m : Meaning W) (p : SinkMeaning O) (said : Words) where
   run_ended step.Help old new out after s report cut h = ends_as step.Help old new s report _ _ out after (λ text is. is) cut h
   run_ended step.Requests old new out after s report cut h = ends_as step.Requests old new s report _ _ out after (λ text is. is) cut h
   run_ended step.Cleaning old new out after s report cut h = tt
-  run_ended step.Listing old new out after s report cut h = tt
+  run_ended step.Listing old new out after s report cut h = ends_as step.Listing old new s report _ _ out after (λ text is. list_ended old new s report text cut is) cut h
   run_ended step.Store old new out after s report cut h = ends_as step.Store old new s report _ _ out after (λ text is. store_ended old new s report text is) cut h
   run_ended step.Building old new out after s report cut h = ends_as step.Building old new s report _ _ out after (λ text is. built_ended old new s report text cut is) cut h
 
@@ -359,3 +408,79 @@ pub cut_ended : (s : Stop) (report : Report) → (report.status ≢ 3 → IsTold
 cut_ended (stop.Fault f) report told cut = absurd cut
 cut_ended (stop.Build f) report told cut = cut_build f report told cut
 cut_ended stop.Memory report told cut = λ ne. absurd (told ne)
+
+-- a list
+
+module _ {W O : Type 0} (m : Meaning W) (p : SinkMeaning O) (said : Words) (g : RuleGraph) (requests : List Request) (old new : W) (out between after : O) where
+  pub serve_unlisted : (r : Result Report Stop) (s : Stop) → IsErrAnd r (λ x. x ≡ s) → IsCutBy s → PrintsSome p out after (progress said building_text)
+      → ServePrints m p said step.Listing g requests old out new after r
+  serve_unlisted (Ok value) s is cut h = absurd is
+  serve_unlisted (Err x) s is cut h =
+      let short = subst IsCutBy (sym is) cut in
+      such_some p (Unit {0}) (IsServedText m p said step.Listing g requests old new (Err x)) (IsCutBy x) out after (progress said building_text) h (short, inl refl) short
+
+  -- for want of memory there is no list
+  pub serve_wanting : Printed p out after (progress said building_text) → ServePrints m p said step.Listing g requests old out new after (Err stop.Memory)
+  serve_wanting h =
+      such_some p (Unit {0}) (IsServedText m p said step.Listing g requests old new (Err stop.Memory)) (Unit {0}) out after (progress said building_text)
+      (some_all p out after (progress said building_text) h) (tt, inl refl) tt
+
+  pub serve_listed : (grown : RuleGraph) (rules : List RuleId) (r : Result Report Stop) → IfOk r (λ report. report.faults ≡ []) → Printed p out between (progress said building_text)
+      → PrintsUpTo p (rules_text said grown rules ++ ending_text said grown requests rules []) between after r → ServePrints m p said step.Listing g requests old out new after r
+  serve_listed grown rules (Ok report) none one h =
+      let text = progress said building_text ++ (rules_text said grown rules ++ ending_text said grown requests rules []) in
+      such_whole p (Unit {0}) (IsServedText m p said step.Listing g requests old new (Ok report)) (IsCutShort report) out after text
+      (printed_then p out between after (progress said building_text) (rules_text said grown rules ++ ending_text said grown requests rules []) one h)
+      (inl (none, record { grown = grown; rules = rules; whole = refl }))
+  serve_listed grown rules (Err s) none one h =
+      let text = progress said building_text ++ (rules_text said grown rules ++ ending_text said grown requests rules []) in
+      such_some p (Unit {0}) (IsServedText m p said step.Listing g requests old new (Err s)) (IsCutBy s) out after text
+      (some_behind p out between after (progress said building_text) (rules_text said grown rules ++ ending_text said grown requests rules []) one h.1)
+      (h.0, inr (record { grown = grown; rules = rules; whole = refl })) h.0
+
+  pub serve_faulty : (f : BuildFault) (r : Result Report Stop) → Printed p out between (progress said building_text) → FaultPrints p said f between after r
+      → ServePrints m p said step.Listing g requests old out new after r
+  serve_faulty f (Ok report) one h =
+      such_joined p (Unit {0}) (Unit {0}) (λ t. t ≡ progress said building_text) (λ t. t ≡ progress said (closing_text said (f ∷ []))) (IsServedText m p said step.Listing g requests old new (Ok report))
+      (IsCutShort report) out between after (λ u. u)
+      (λ first second is same. inr (inl (record { fault = f; told = h.1; whole = ap (λ x. x ++ second) is ∙ ap (λ x. progress said building_text ++ x) same })))
+      (such_whole p (Unit {0}) (λ t. t ≡ progress said building_text) ⊥ out between (progress said building_text) one refl) h.0
+  serve_faulty f (Err s) one h =
+      such_some p (Unit {0}) (IsServedText m p said step.Listing g requests old new (Err s)) (IsCutBy s) out after (progress said building_text)
+      (some_all p out after (progress said building_text) (subst (λ x. Printed p out x (progress said building_text)) (sym h.1) one)) (h.0, inl refl) h.0
+
+-- the last line behind the fault of a list
+
+contains_told : (found : List BuildFault) (f : BuildFault) (written : Result (Unit {0}) Stop) (faults : List Top) → ClosesWith found written faults → Contains found f → Contains faults (top_of f)
+contains_told found f (Ok value) faults is has = subst (λ (fs : List Top). Contains fs (top_of f)) (sym is) (in_tops found f has)
+contains_told found f (Err s) faults is has =
+    subst (λ (fs : List Top). Contains fs (top_of f)) (sym is) (Contains-append_left (map top_of found) (top.OutFault ∷ []) (top_of f) (in_tops found f has))
+
+found_in : (f : BuildFault) (none one found : List BuildFault) (printed : Result (Unit {0}) Fault) (lost : Bool) → one ≡ none ++ f ∷ [] → AddsUnprinted printed one found lost → lost ≡ false → Contains found f
+found_in f none one found (Ok value) lost pushed adds kept = subst (λ (fs : List BuildFault). Contains fs f) (sym (adds.0 ∙ pushed)) (Contains-push none f)
+found_in f none one found (Err refused) lost pushed adds kept =
+    subst (λ (fs : List BuildFault). Contains fs f) (sym (adds.0 kept)) (Contains-append_left one (fault.OutFault ∷ []) f (subst (λ (fs : List BuildFault). Contains fs f) (sym pushed) (Contains-push none f)))
+
+pub fault_prints : {O : Type 0} (p : SinkMeaning O) (said : Words) (f : BuildFault) (none one slice found : List BuildFault) (printed : Result (Unit {0}) Fault) (lost : Bool) (out after : O)
+    (written : Result (Unit {0}) Stop) (report : Report) → none ≡ [] → one ≡ none ++ f ∷ [] → slice ≡ one → AddsUnprinted printed one found lost → PrintsUpTo p (progress said (closing_text said slice)) out after written
+    → (report.status ≢ 3 → lost ≡ false) → (report.status ≢ 3 → ClosesWith found written report.faults) → FaultPrints p said f out after (Ok report)
+fault_prints p said f none one slice found printed lost out after written report is pushed same adds prints kept closes =
+    let line = same ∙ pushed ∙ ap (λ (fs : List BuildFault). fs ++ f ∷ []) is in (
+      by written (subst (λ (fs : List BuildFault). PrintsUpTo p (progress said (closing_text said fs)) out after written) line prints) closes,
+      λ ne. contains_told found f written report.faults (closes ne) (found_in f none one found printed lost pushed adds (kept ne)),
+    )
+  where
+    by : (written : Result (Unit {0}) Stop) → PrintsUpTo p (progress said (closing_text said (f ∷ []))) out after written → (report.status ≢ 3 → ClosesWith found written report.faults)
+        → PrintsSuch p (Unit {0}) (λ text. text ≡ progress said (closing_text said (f ∷ []))) (IsCutShort report) out after
+    by (Ok value) h closes = such_whole p (Unit {0}) (λ text. text ≡ progress said (closing_text said (f ∷ []))) (IsCutShort report) out after (progress said (closing_text said (f ∷ []))) h refl
+    by (Err s) h closes =
+        such_some p (Unit {0}) (λ text. text ≡ progress said (closing_text said (f ∷ []))) (IsCutShort report) out after (progress said (closing_text said (f ∷ []))) h.1 refl (cut_unwritten found s report closes)
+
+pub fault_memory : {O : Type 0} (p : SinkMeaning O) (said : Words) (f : BuildFault) (out : O) (r : Result Report Stop) → IsErrAnd r (λ s. s ≡ stop.Memory) → FaultPrints p said f out out r
+fault_memory p said f out (Ok report) is = absurd is
+fault_memory p said f out (Err s) is = (subst IsCutBy (sym is) tt, refl)
+
+-- what a sink told before it tells behind such a last line
+pub fault_told : {O : Type 0} (p : SinkMeaning O) (said : Words) (f : BuildFault) (out after : O) (r : Result Report Stop) → FaultPrints p said f out after r → p.tells after → p.tells out
+fault_told p said f out after (Ok report) h = h.0.told
+fault_told p said f out after (Err s) h = λ t. subst p.tells h.1 t

@@ -25,7 +25,7 @@ use Rattle.scons_top.specs.declared.stop.Stop.TheVariants as stop
 use Rattle.scons_top.specs.Asked.{asked_of, words_asked}
 use Rattle.scons_top.specs.Builds.{wanted_by}
 use Rattle.scons_top.specs.Requested.{AskForNodes, nodes_asked}
-use Rattle.scons_top.specs.RunLines.{progress, opening_text, options_of, ending_text}
+use Rattle.scons_top.specs.RunLines.{progress, opening_text, options_of, closing_text, ending_text, rules_text}
 use Rattle.scons_top.specs.Stops.{top_of}
 
 -- ---- texts on a sink
@@ -110,10 +110,33 @@ IsBuildingText m p said g requests old new (Ok report) text =
     IsBuildText m p said g requests old new report text ⊎ (IsCutShort report × (text ≡ progress said building_text))
 IsBuildingText m p said g requests old new (Err s) text = IsCutBy s × (text ≡ progress said building_text)
 
+-- Behind that line a list has the lines of its rules, and the ending: of each rule that is listed as if it were started.
+pub record IsListText (said : Words) (requests : List Request) (text : List ℕ) : Type 0 where
+  -- the graph as it grew by copies
+  pub grown : RuleGraph
+  pub rules : List RuleId
+  pub whole : text ≡ progress said building_text ++ (rules_text said grown rules ++ ending_text said grown requests rules [])
+
+-- or the last line alone, where a fault of the graph or of the files came
+pub record IsFaultyText (said : Words) (report : Report) (text : List ℕ) : Type 0 where
+  pub fault : BuildFault
+  pub told : report.status ≢ 3 → Contains report.faults (top_of fault)
+  pub whole : text ≡ progress said building_text ++ progress said (closing_text said (fault ∷ []))
+
+-- where a run is cut short, the list may not have been made yet
+abbrev pub IsListOrNone : Words → List Request → List ℕ → Type 0
+IsListOrNone said requests text = (text ≡ progress said building_text) ⊎ IsListText said requests text
+
+abbrev pub IsListingText : Words → List Request → Result Report Stop → List ℕ → Type 0
+IsListingText said requests (Ok report) text =
+    (report.faults ≡ []) × IsListText said requests text ⊎ IsFaultyText said report text ⊎ IsCutShort report × IsListOrNone said requests text
+IsListingText said requests (Err s) text = IsCutBy s × IsListOrNone said requests text
+
 -- what is printed once it is known what is requested
 abbrev pub IsServedText : {W O : Type 0} → Meaning W → SinkMeaning O → Words → Step → RuleGraph → List Request → W → W → Result Report Stop → List ℕ → Type 0
 IsServedText m p said step.Building g requests old new result text = IsBuildingText m p said g requests old new result text
 IsServedText m p said step.Store g requests old new result text = text ≡ []
+IsServedText m p said step.Listing g requests old new result text = IsListingText said requests result text
 IsServedText m p said other g requests old new result text = ⊥
 
 -- ---- behind the opening
@@ -159,23 +182,29 @@ IsRunText m p said other old new result text = IsBehindText said (λ g requests 
 
 -- ---- the clauses
 
--- In a world that tells and is sure this is printed; where trees are shown nothing is said yet of a build.
-abbrev pub Surely : {W : Type 0} → Meaning W → Words → W → Type 0
-Surely m said new = m.tells new × m.sure new × (said.tree ≡ false)
+-- A build prints so in a world that tells and is sure; where trees are shown nothing is said of it yet.
+abbrev pub Surely : {W : Type 0} → Meaning W → Words → Step → W → Type 0
+Surely m said step.Building new = m.tells new × m.sure new × (said.tree ≡ false)
+Surely m said other new = Unit {0}
 
 abbrev pub ReadPrints : {O T : Type 0} → SinkMeaning O → Words → Step → O → O → Result T Stop → Type 0
 ReadPrints p said at out new_out (Ok graph) = PrintsSuch p (Unit {0}) (IsOpeningText said) ⊥ out new_out
 ReadPrints p said at out new_out (Err s) = PrintsSuch p (Unit {0}) (IsReadText said at) (IsCutBy s) out new_out
 
--- Of lists and of cleaning nothing is said yet.
+-- where the fault that ended a list is told, and the last line is written
+abbrev pub FaultPrints : {O : Type 0} → SinkMeaning O → Words → BuildFault → O → O → Result Report Stop → Type 0
+FaultPrints p said fault out new_out (Ok report) =
+    PrintsSuch p (Unit {0}) (λ text. text ≡ progress said (closing_text said (fault ∷ []))) (IsCutShort report) out new_out
+    × (report.status ≢ 3 → Contains report.faults (top_of fault))
+FaultPrints p said fault out new_out (Err s) = IsCutBy s × (new_out ≡ out)
+
+-- Of cleaning nothing is said yet.
 abbrev pub ServePrints : {W O : Type 0} → Meaning W → SinkMeaning O → Words → Step → RuleGraph → List Request → W → O → W → O → Result Report Stop → Type 0
 ServePrints m p said step.Cleaning g requests old out new new_out result = Unit {0}
-ServePrints m p said step.Listing g requests old out new new_out result = Unit {0}
 ServePrints m p said at g requests old out new new_out result =
-    PrintsSuch p (Surely m said new) (IsServedText m p said at g requests old new result) (IsCut result) out new_out
+    PrintsSuch p (Surely m said at new) (IsServedText m p said at g requests old new result) (IsCut result) out new_out
 
 abbrev pub RunPrints : {W O : Type 0} → Meaning W → SinkMeaning O → Words → Step → W → O → W → O → Result Report Stop → Type 0
 RunPrints m p said step.Cleaning old out new new_out result = Unit {0}
-RunPrints m p said step.Listing old out new new_out result = Unit {0}
 RunPrints m p said at old out new new_out result =
-    PrintsSuch p (Surely m said new) (IsRunText m p said at old new result) (IsCut result) out new_out
+    PrintsSuch p (Surely m said at new) (IsRunText m p said at old new result) (IsCut result) out new_out

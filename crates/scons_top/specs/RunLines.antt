@@ -37,7 +37,7 @@ options_of said = record { jobs = said.jobs; keep = said.keep; hash = said.hash;
 
 -- ---- of a list, and of what is removed
 
-abbrev line_by : RuleGraph → Option Rule → List ℕ
+abbrev pub line_by : RuleGraph → Option Rule → List ℕ
 line_by g None = []
 line_by g (Some r) = rule_text g r
 

@@ -191,11 +191,11 @@ returns-clause-bytes g c = λ t. building_ends _ (Ok c.closed.result) (c.in_ok-s
 
 pub returns-in_err-nodes-clause-prints : goal.returns-in_err-nodes-clause-prints
 returns-in_err-nodes-clause-prints g c = λ asks.
-    serve_unopened g.W.Disk.meaning g.O.Sink.meaning c.args.words.now c.args.graph.now c.args.requests.now c.args.world.now _ c.args.out.now c.from_residual.result
+    serve_unopened g.W.Disk.meaning g.O.Sink.meaning c.args.words.now c.args.graph.now c.args.requests.now c.args.world.now c.args.world.now c.args.out.now c.from_residual.result
 
 pub returns-in_err-store-clause-prints : goal.returns-in_err-store-clause-prints
 returns-in_err-store-clause-prints g c = λ asks.
-    serve_unopened g.W.Disk.meaning g.O.Sink.meaning c.args.words.now c.args.graph.now c.args.requests.now c.args.world.now _ c.args.out.now c.from_residual-in_err-store.result
+    serve_unopened g.W.Disk.meaning g.O.Sink.meaning c.args.words.now c.args.graph.now c.args.requests.now c.args.world.now c.args.world.now c.args.out.now c.from_residual-in_err-store.result
 
 pub returns-in_err-say-clause-prints : goal.returns-in_err-say-clause-prints
 returns-in_err-say-clause-prints g c = λ asks.

@@ -99,6 +99,6 @@ returns-clause-stops g c =
     let path = c.in-Some-2.path in
     let read = read_as word path _ c.in-Some-2.is c.in_ok-path.ensures in
     let target : is_target old (spelling old.top word) ≡ false =
-        target_spelled old word _ path _ read c.top.ensures c.in_ok-path-2.ensures.path (c.in_ok-has_rule.ensures.none c.if-branch.false) in
+    target_spelled old word _ path _ read c.top.ensures c.in_ok-path-2.ensures.path (c.in_ok-has_rule.ensures.none c.if-branch.false) in
     let unknown = unknown_path old word word refl none (λ path. target) in
     ends_weaker (IsWordIn old new word) (IsUnknownAs new word) c.file_request.result (λ other is. unknown_at old new word other unknown is) c.file_request.ensures.stops

@@ -170,11 +170,11 @@ returns-in_err-graph-clause-prints g c =
 
 pub returns-then-words-clause-prints : goal.returns-then-words-clause-prints
 returns-then-words-clause-prints g c =
-    run_help g.W.Disk.meaning g.O.Sink.meaning c.args.words.now c.in_ok-graph.graph c.args.world.now _ _ _ _ c.help.result c.in_ok-graph.ensures.prints c.help.ensures.prints
+    run_help g.W.Disk.meaning g.O.Sink.meaning c.args.words.now c.in_ok-graph.graph c.args.world.now c.args.world.now _ _ _ c.help.result c.in_ok-graph.ensures.prints c.help.ensures.prints
 
 pub returns-in_err-requests-clause-prints : goal.returns-in_err-requests-clause-prints
 returns-in_err-requests-clause-prints g c =
-    run_asked g.W.Disk.meaning g.O.Sink.meaning c.args.words.now c.args.world.now _ _ _ c.from_residual-in_err-requests.result c.in_ok-graph.ensures.prints
+    run_asked g.W.Disk.meaning g.O.Sink.meaning c.args.words.now c.args.world.now c.args.world.now _ _ c.from_residual-in_err-requests.result c.in_ok-graph.ensures.prints
 
 pub returns-clause-prints : goal.returns-clause-prints
 returns-clause-prints g c =

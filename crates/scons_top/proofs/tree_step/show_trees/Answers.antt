@@ -1,3 +1,4 @@
+use Rattle.scons_top.proofs.Serving.{fault_told}
 use Rattle.report_texts.specs.Texts.{done_text}
 use Rattle.scons_top.proofs.Printing.{up_to_told}
 use Rattle.scons_top.proofs.Telling.{stops_silent, tells_none}
@@ -40,3 +41,7 @@ pub returns-in_ok-say-in-Ok-clause-out : goal.returns-in_ok-say-in-Ok-clause-out
 returns-in_ok-say-in-Ok-clause-out g c = λ t.
     c.in_ok-tell_requests.ensures.prints.told
     (c.print_trees.ensures.out (up_to_told g.O.Sink.meaning _ _ _ c.say.result (c.say.ensures.prints done_text c.done_text.ensures) t))
+
+pub returns-in_default-clause-out : goal.returns-in_default-clause-out
+returns-in_default-clause-out g c = λ t.
+    c.in_ok-tell_requests.ensures.prints.told (c.print_trees.ensures.out (fault_told g.O.Sink.meaning c.args.words.now _ _ _ c.end_with.result c.end_with.ensures.prints t))
