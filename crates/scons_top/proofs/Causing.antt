@@ -470,7 +470,7 @@ top_action fault.OutFault is = absurd is
 top_action (fault.TooLarge path size) is = absurd is
 top_action (fault.TooMany what count) is = absurd is
 
-in_tops : (fs : List BuildFault) (f : BuildFault) → Contains fs f → Contains (map top_of fs) (top_of f)
+pub in_tops : (fs : List BuildFault) (f : BuildFault) → Contains fs f → Contains (map top_of fs) (top_of f)
 in_tops [] f h = absurd (omega (arith, h.1))
 in_tops (g ∷ fs) f (zero, lt, is) = (0, omega arith, ap top_of is)
 in_tops (g ∷ fs) f (suc k, lt, is) = further (map top_of fs) (top_of g) (top_of f) (in_tops fs f (k, omega (arith, lt), is))

@@ -9,3 +9,8 @@ mod Clearing
 mod Opening
 mod Stopping
 mod Shown
+mod Asking
+mod Marking
+mod Printing
+mod Serving
+mod Telling

@@ -21,6 +21,7 @@ use Rattle.scons_top.specs.declared.step.Step.TheVariants as step
 use Rattle.scons_top.specs.declared.stop.Stop.{Stop}
 use Rattle.scons_top.specs.declared.stop.Stop.TheVariants as stop
 use Rattle.scons_top.specs.Faults.{IsLateStop}
+use Rattle.scons_top.specs.Asked.{NamesNone, StopsFor}
 use Rattle.scons_top.specs.Foreign.{IsOfBytes, StopsByBytes, StepByBytes, StepOnNone, IsOpened, TellsBytes, StopsAtBytes, EndsByBytes, RunByBytes}
 use Rattle.scons_top.specs.Steps.{ComesAt, AllComeAt, StopsAt, RunEndsAt, IsReadingStep, IsStopOr, IsFaultOr}
 use Rattle.scons_top.specs.Stops.{top_of, stop_of_list, stop_of_store, IsInside}
@@ -168,6 +169,6 @@ pub stopped_bytes : (banks : Banks) (at : Step) (s : Stop) (report : Report) →
 stopped_bytes banks at s report is all h = report_bytes banks at report is (record { each = alone_bytes banks s report.faults all h.stops; readable = h.readable })
 
 -- a node that isn't to be had
-pub node_bytes : {T : Type 0} (banks : Banks) (r : Result T Stop) → IsErrAnd r (λ s. IsInside s × StopsAt step.Requests s × ((x : Banks) → StopsByBytes x s)) → IfErr r (StopsByBytes banks)
+pub node_bytes : {T : Type 0} (banks : Banks) (r : Result T Stop) → IsErrAnd r (λ s. IsInside s × StopsFor NamesNone s × ((x : Banks) → StopsByBytes x s)) → IfErr r (StopsByBytes banks)
 node_bytes banks (Ok value) is = absurd is
 node_bytes banks (Err s) is = is.2 banks

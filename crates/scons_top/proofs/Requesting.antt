@@ -2,11 +2,12 @@
 use Rattle.std.proofs.Common.{◌≡◌, ◌∙◌, ◌<◌, ◌+◌, ◌++◌, ◌∷◌, ◌&&◌, [], ℕ, Bool, true, List, length, get_or, take, ap, refl, sym, subst, append_assoc, append-nil, arith}
 use Rattle.std.specs.Prelude.{nat_lt}
 use Rattle.std.proofs.lemmas.Bool.{lt-ltb}
-use Rattle.std.proofs.lemmas.List.{take_more}
+use Rattle.std.proofs.lemmas.List.{map-append, take_more}
 use Rattle.std.proofs.lemmas.List.Elements.{All-weaker, All-push, All-head, All-tail, All-append, All-get_or}
 use Rattle.scons_base.specs.declared.ids.NodeId.{NodeId}
 use Rattle.rule_graph.specs.Graphs.{RuleGraph}
 use Rattle.rule_graph.specs.Rules.{are_below}
+use Rattle.scons_top.specs.Asked.{words_asked}
 use Rattle.scons_top.specs.Requested.{AreNodes, AsksForNodes, AskForNodes, HasMore, nodes_asked}
 use Rattle.scons_top.specs.declared.requests.Request.{Request}
 
@@ -46,6 +47,13 @@ nodes_added g requests i d old slice new lt at of is asks before =
     let P = λ (node : NodeId). node.0 < length g.nodes in
     let one : AsksForNodes g d = subst (AsksForNodes g) (sym at) (All-get_or (AsksForNodes g) requests i d lt asks) in
     subst (AreNodes g) (sym is) (All-append P old slice before (subst (AreNodes g) (sym of) one))
+
+-- the words of requests
+pub words_pushed : (old new : List Request) (request : Request) (asked : List (List ℕ)) (i : ℕ) (word : List ℕ) → i < length asked → word ≡ get_or asked i word
+    → new ≡ old ++ request ∷ [] → request.word ≡ word → words_asked old ≡ take i asked → words_asked new ≡ take (i + 1) asked
+words_pushed old new request asked i word lt at is same was =
+    ap words_asked is ∙ map-append (λ (r : Request). r.word) old (request ∷ [])
+    ∙ ap (λ l. l ++ request.word ∷ []) was ∙ ap (λ w. take i asked ++ w ∷ []) (same ∙ at) ∙ sym (take_more asked i word lt)
 
 -- as a test
 

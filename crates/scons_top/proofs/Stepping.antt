@@ -34,6 +34,7 @@ use Rattle.scons_top.specs.declared.stop.Stop.{Stop}
 use Rattle.scons_top.specs.declared.stop.Stop.TheVariants as stop
 use Rattle.scons_top.specs.Faults.{IsLateStop}
 use Rattle.scons_top.specs.Builds.{EndsBefore}
+use Rattle.scons_top.specs.Asked.{NamesNone, StopsFor}
 use Rattle.scons_top.specs.Foreign.{StopsByBytes}
 use Rattle.world_api.specs.Banks.{Banks}
 use Rattle.scons_top.specs.Endings.{AddsStopped, AddsUnwritten, AddsUnprinted}
@@ -114,27 +115,6 @@ store_at refusal.Fault = tt
 store_at (refusal.Foreign bank) = tt
 store_at (refusal.Large size) = tt
 store_at refusal.Memory = tt
-
-pub store_asked : (e : StoreRefusal) → StopsAt step.Requests (stop_of_store e)
-store_asked refusal.Fault = tt
-store_asked (refusal.Foreign bank) = tt
-store_asked (refusal.Large size) = tt
-store_asked refusal.Memory = tt
-
-look_fault : (a b : Counts) (f : BuildFault) → HasLookFault a b f → ComesAt step.Requests (top_of f)
-look_fault a b (fault.Missing node target) h = absurd h
-look_fault a b (fault.Cycle paths) h = absurd h
-look_fault a b (fault.ActionFailed target code) h = absurd h
-look_fault a b (fault.TreeFault path) h = tt
-look_fault a b (fault.StartFault target) h = absurd h
-look_fault a b fault.StoreFault h = absurd h
-look_fault a b fault.OutFault h = absurd h
-look_fault a b (fault.TooLarge path size) h = tt
-look_fault a b (fault.TooMany what count) h = tt
-
-pub look_at : (a b : Counts) (e : ListEnd) → HasEndCause a b e → StopsAt step.Requests (stop_of_list e)
-look_at a b (list_end.Fault f) h = look_fault a b f h
-look_at a b list_end.Memory h = tt
 
 -- a refusal of the file tree alone has its cause where only that was at fault
 
@@ -564,14 +544,7 @@ stops_as {T = T} at r s is h = subst (λ (x : Result T Stop). IfErr x (StopsAt a
 pub store_stops : (s : Stop) (e : StoreRefusal) → s ≡ stop_of_store e → StopsAt step.Store s
 store_stops s e is = subst (StopsAt step.Store) (sym is) (store_at e)
 
-pub store_asks : (s : Stop) (e : StoreRefusal) → s ≡ stop_of_store e → StopsAt step.Requests s
-store_asks s e is = subst (StopsAt step.Requests) (sym is) (store_asked e)
-
 -- a node that isn't to be had
-pub node_step : {T : Type 0} (r : Result T Stop) → IsErrAnd r (λ s. IsInside s × StopsAt step.Requests s × ((banks : Banks) → StopsByBytes banks s)) → InnerStep r
+pub node_step : {T : Type 0} (r : Result T Stop) → IsErrAnd r (λ s. IsInside s × StopsFor NamesNone s × ((banks : Banks) → StopsByBytes banks s)) → InnerStep r
 node_step (Ok value) is = absurd is
 node_step (Err s) is = is.0
-
-pub node_stops : {T : Type 0} (r : Result T Stop) → IsErrAnd r (λ s. IsInside s × StopsAt step.Requests s × ((banks : Banks) → StopsByBytes banks s)) → IfErr r (StopsAt step.Requests)
-node_stops (Ok value) is = absurd is
-node_stops (Err s) is = is.1

@@ -50,6 +50,11 @@ abbrev pub AddsUnwritten : Result (Unit {0}) Stop → List Top → List Top → 
 AddsUnwritten (Ok value) old new lost = (new ≡ old) × (lost ≡ false)
 AddsUnwritten (Err s) old new lost = AddsStopped s old new lost
 
+-- which faults a report then has that wants no memory
+abbrev pub ClosesWith : List BuildFault → Result (Unit {0}) Stop → List Top → Type 0
+ClosesWith found (Ok value) faults = faults ≡ map top_of found
+ClosesWith found (Err s) faults = faults ≡ map top_of found ++ top.OutFault ∷ []
+
 -- the faults of a build are reported, once the last line was written or not
 abbrev pub Closes : List BuildFault → Bool → Result (Unit {0}) Stop → Report → Type 0
 Closes found memory written report = (start : Outside) (counts : Counts) (out new_out err : ℕ)

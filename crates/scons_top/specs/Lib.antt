@@ -1,13 +1,17 @@
+pub mod Asked
 pub mod Builds
 pub mod Causes
 pub mod Cleaned
 pub mod Endings
 pub mod Faults
 pub mod Foreign
+pub mod Printed
 pub mod Requested
+pub mod RunLines
 pub mod Steps
 pub mod Stopping
 pub mod Stops
 pub mod Texts
+pub mod Told
 pub mod Trees
 pub mod Watching

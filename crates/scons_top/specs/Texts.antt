@@ -32,4 +32,4 @@ IsTopText (Usage place kind) text = text ≡ usage_text place kind
 IsTopText (Reading file line kind) text = (why : List ℕ) × IsKindText kind why × (text ≡ reading_text file line why)
 IsTopText (UnknownTarget word) text = text ≡ unknown_text word
 IsTopText (StoreForeign bank) text = text ≡ foreign_text bank
-IsTopText other text = text ≡ []
+IsTopText other text = ⊥

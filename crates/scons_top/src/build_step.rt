@@ -1,5 +1,5 @@
 //! The build of what was requested.
-ghost use Rattle.std.specs.Prelude.{◌≡◌, [], true, false, IfOk, IfErr};
+ghost use Rattle.std.specs.Prelude.{◌≡◌, ◌||◌, ◌&&◌, [], not, true, false, Contains, IfOk, IfErr};
 ghost use Rattle.build_run.specs.Goings.{Passes, Goes};
 ghost use Rattle.scons_top.specs.Faults.{IsLateStop, EarlyOnlyIf};
 ghost use Rattle.scons_top.specs.Foreign.{RunByBytes, StepByBytes};
@@ -9,8 +9,11 @@ ghost use Rattle.rule_graph.specs.Graphs.{RuleGraph};
 ghost use Rattle.sign_store.specs.Stores.{IsKept, is_live, HasMapOf};
 ghost use Rattle.scons_top.specs.Builds.{BeginsStore, RunBuilds};
 ghost use Rattle.scons_top.specs.Steps.{IsBuildingStep, LeavesAt, RunEndsAt, StopsAt};
+ghost use Rattle.scons_top.specs.Printed.{LosesOut, PrintsUnless, PrintsUpTo, ServePrints};
+ghost use Rattle.scons_top.specs.RunLines.{ending_text};
 ghost use Rattle.scons_top.specs.Requested.{AskForNodes, GivesNodes, nodes_asked};
 ghost use Rattle.scons_top.specs.Stopping.{RunsSafely};
+ghost use Rattle.scons_top.specs.Told.{TellsOrStops};
 ghost use Rattle.scons_top.specs.Stops.{Reports, SinkStep, WorldStep};
 
 use crate::ending::{closed, tell_done, tell_faulty};
@@ -21,7 +24,7 @@ use crate::step::Step;
 use crate::stop::Stop;
 use crate::tree_step::tell_trees;
 use build_run::{BuildEnd, Options, build};
-use rule_graph::Graph;
+use rule_graph::{BuildFault, Graph};
 use scons_base::{Memory, NodeId};
 use scons_report::building_text;
 use scons_words::Words;
@@ -48,6 +51,8 @@ pub(crate) fn build_requests<W: World, O: Sink, E: Sink>(
     ensures leaves { LeavesAt W.meaning at.new world.old world.new }
     ensures passes { Passes W.meaning world.old world.new }
     ensures reports { Reports W.meaning O.meaning E.meaning world.old out.old err.old world.new out.new err.new result }
+    ensures prints { AskForNodes graph.old requests.now → ServePrints W.meaning O.meaning words.now at.new graph.old requests.now world.old out.old world.new out.new result }
+    ensures tells { TellsOrStops E.meaning err.old err.new result }
     ensures idle { W.meaning.tells world.new → (W.meaning.around world.new).running ≡ [] }
     ensures late { IfErr result IsLateStop }
     ensures faults { IfOk result (λ report. EarlyOnlyIf ⊥ report.faults) }
@@ -118,6 +123,7 @@ fn begin_store<W: World>(alloc: Global, world: &mut W) -> Result<Store, Stop>
 fn has_trees(words: &Words, end: &BuildEnd) -> bool
     ensures faults { result ≡ true → end.now.faults ≡ [] }
     ensures memory { result ≡ true → end.now.memory ≡ false }
+    ensures tree { result ≡ true → words.now.tree ≡ true }
 {
     words.tree && !words.silent && !end.memory && end.faults.is_empty()
 }
@@ -143,13 +149,50 @@ fn tell_end<O: Sink>(
     end: &BuildEnd,
     out: &mut O,
 ) -> Result<(), Stop>
-    ensures { SinkStep (O.meaning.faults out.old) (O.meaning.faults out.new) result }
+    ensures step { SinkStep (O.meaning.faults out.old) (O.meaning.faults out.new) result }
+    ensures prints { PrintsUnless O.meaning (LosesOut end.now) (ending_text words.now graph.now requests.now end.now.started end.now.faults) out.old out.new result }
 {
-    if end.memory || end.is_out_shut {
+    if loses_out(end) {
         return Ok(());
     }
-    match end.faults.as_slice() {
-        [] => tell_done(alloc, graph, words, requests, end.started.as_slice(), out),
-        faults => tell_faulty(alloc, words, faults, out),
+    tell_ending(alloc, graph, words, requests, end, out)
+}
+
+/// Writes what was up to date and that it is done, or that faults ended it.
+fn tell_ending<O: Sink>(
+    alloc: Global,
+    graph: &Graph,
+    words: &Words,
+    requests: &[Request],
+    end: &BuildEnd,
+    out: &mut O,
+) -> Result<(), Stop>
+    ensures step { SinkStep (O.meaning.faults out.old) (O.meaning.faults out.new) result }
+    ensures prints { PrintsUpTo O.meaning (ending_text words.now graph.now requests.now end.now.started end.now.faults) out.old out.new result }
+{
+    if end.faults.is_empty() {
+        return tell_done(alloc, graph, words, requests, end.started.as_slice(), out);
     }
+    tell_faulty(alloc, words, end.faults.as_slice(), out)
+}
+
+/// Whether standard output refused, which is reported then, or memory was wanting.
+fn loses_out(end: &BuildEnd) -> bool
+    ensures { result ≡ true → LosesOut end.now }
+{
+    if end.memory {
+        return true;
+    }
+    end.is_out_shut && has_out_fault(end.faults.as_slice())
+}
+
+fn has_out_fault(faults: &[BuildFault]) -> bool
+    ensures { result ≡ true → Contains faults.now BuildFault.OutFault }
+{
+    for fault in faults {
+        if matches!(fault, BuildFault::OutFault) {
+            return true;
+        }
+    }
+    false
 }

@@ -1,5 +1,5 @@
 //! A dry run: what a build would start is listed.
-ghost use Rattle.std.specs.Prelude.{◌≡◌, ◌++◌, ◌∷◌, [], true, false, IfOk, IfErr};
+ghost use Rattle.std.specs.Prelude.{◌≡◌, ◌++◌, ◌∷◌, [], true, false, IfOk, IfErr, slice_get, string_bytes};
 ghost use Rattle.scons_top.specs.Faults.{IsLateStop, EarlyOnlyIf};
 ghost use Rattle.scons_top.specs.Foreign.{RunByBytes};
 ghost use Rattle.sign_store.specs.Readings.{AreReadable, IsRefusal};
@@ -7,8 +7,11 @@ ghost use Rattle.world_api.specs.Statuses.{HasStatus};
 ghost use Rattle.scons_report.specs.Causes.{HasListCause};
 ghost use Rattle.sign_store.specs.Reached.{HasFaultCause};
 ghost use Rattle.scons_top.specs.Endings.{ListEnds, AddsUnprinted};
+ghost use Rattle.scons_top.specs.Printed.{FaultPrints, PrintsUpTo, ServePrints};
+ghost use Rattle.scons_top.specs.RunLines.{ending_text, line_by, rules_text};
 ghost use Rattle.scons_top.specs.Steps.{ComesAt, IsListingStep, RunEndsAt};
 ghost use Rattle.scons_top.specs.Stops.{SinkReports, Reports, top_of};
+ghost use Rattle.scons_top.specs.Told.{TellsOrStops};
 ghost use Rattle.scons_top.specs.Watching.{Watches};
 
 use crate::build_step::nodes_of;
@@ -43,6 +46,8 @@ pub(crate) fn list_requests<W: World, O: Sink, E: Sink>(
     ensures bytes { RunByBytes W.meaning at.new world.old world.new result }
     ensures watches { Watches W.meaning world.old world.new }
     ensures reports { Reports W.meaning O.meaning E.meaning world.old out.old err.old world.new out.new err.new result }
+    ensures prints { ServePrints W.meaning O.meaning words.now at.new graph.old requests.now world.old out.old world.new out.new result }
+    ensures tells { TellsOrStops E.meaning err.old err.new result }
     ensures faults { IfOk result (λ report. EarlyOnlyIf ⊥ report.faults) }
     ensures status { IfOk result (λ report. HasStatus report.status report.faults) }
 {
@@ -96,7 +101,8 @@ fn tell_rules<O: Sink>(
 ) -> Result<Report, Stop>
     ensures ends { RunEndsAt Step.Listing result }
     ensures reports { SinkReports O.meaning out.old out.new result }
-    ensures faults { IfOk result (λ report. EarlyOnlyIf ⊥ report.faults) }
+    ensures prints { PrintsUpTo O.meaning (rules_text words.now graph.now rules.now ++ ending_text words.now graph.now requests.now rules.now []) out.old out.new result }
+    ensures faults { IfOk result (λ report. report.faults ≡ []) }
     ensures status { IfOk result (λ report. HasStatus report.status report.faults) }
 {
     for rule in rules {
@@ -107,7 +113,9 @@ fn tell_rules<O: Sink>(
 }
 
 /// The lines of a rule. A list names rules of its graph alone; another would be answered as want of memory is.
-fn lines_of(alloc: Global, graph: &Graph, rule: RuleId) -> Result<String, Memory> {
+fn lines_of(alloc: Global, graph: &Graph, rule: RuleId) -> Result<String, Memory>
+    ensures { IfOk result (λ text. string_bytes text ≡ line_by graph.now (slice_get graph.now.rules rule.0)) }
+{
     if rule.0 < graph.rules() {
         rule_text(alloc, graph, rule)
     } else {
@@ -129,6 +137,8 @@ pub(crate) fn end_with<O: Sink, E: Sink>(
     ensures faults { IfOk result (λ report. EarlyOnlyIf ⊥ report.faults) }
     ensures status { IfOk result (λ report. HasStatus report.status report.faults) }
     ensures reports { ListEnds O.meaning E.meaning fault out.old err.old out.new err.new result }
+    ensures prints { FaultPrints O.meaning words.now fault out.old out.new result }
+    ensures tells { TellsOrStops E.meaning err.old err.new result }
 {
     let text = fault_text(alloc, &fault)?;
     let mut faults = Listing::empty(alloc);

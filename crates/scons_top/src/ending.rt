@@ -1,7 +1,14 @@
 //! How a run ends: its last lines and its report.
-ghost use Rattle.std.specs.Prelude.{◌≡◌, ◌≢◌, ◌++◌, ◌∷◌, [], true, false, All, Contains, map, IfOk, IfErr, OnOk, OnErr};
+ghost use Rattle.std.specs.Prelude.{◌≡◌, ◌≢◌, ◌++◌, ◌∷◌, [], ℕ, List, true, false, All, Contains, map, slice_set, IfOk, IfErr, OnOk, OnErr, string_bytes};
+ghost use Rattle.std.specs.List.{list_all};
+ghost use Rattle.report_texts.specs.Texts.{done_text};
+ghost use Rattle.rule_graph.specs.Rules.{rule_of};
 ghost use Rattle.scons_top.specs.Faults.{IsEarly, IsEarlyStop, IsLate, IsLateStop, EarlyOnlyIf};
-ghost use Rattle.scons_top.specs.Endings.{ErrFinds, ErrEnds, ErrReports, AddsStopped, AddsUnwritten, Closes};
+ghost use Rattle.scons_base.specs.declared.ids.RuleId.{RuleId};
+ghost use Rattle.scons_top.specs.Endings.{ErrFinds, ErrEnds, ErrReports, AddsStopped, AddsUnwritten, Closes, ClosesWith};
+ghost use Rattle.scons_top.specs.Printed.{PrintsUpTo};
+ghost use Rattle.scons_top.specs.RunLines.{AreMarks, closing_text, goes_on, has_started, is_made_by, notice, progress, request_text, requests_text};
+ghost use Rattle.scons_top.specs.Told.{AreShown, IsLine, TellsFaults};
 ghost use Rattle.scons_top.specs.Steps.{AllComeAt, AllFoundAt, IsFaultOr, IsStopOr, IsTold, RunEndsAt, ReportsAt};
 ghost use Rattle.scons_top.specs.Stops.{SinkStep, SinkReports, top_of};
 ghost use Rattle.scons_top.specs.declared.report.Top.{Top};
@@ -65,6 +72,7 @@ pub(crate) fn show<O: Sink>(
 ) -> Result<Report, Stop>
     ensures ends { RunEndsAt step result }
     ensures reports { SinkReports O.meaning out.old out.new result }
+    ensures prints { (line : List ℕ) → IfOk text (λ t. string_bytes t ≡ line) → PrintsUpTo O.meaning line out.old out.new result }
     ensures faults { IfOk result (λ report. report.faults ≡ []) }
     ensures status { IfOk result (λ report. HasStatus report.status report.faults) }
 {
@@ -81,6 +89,7 @@ pub(crate) fn ended<E: Sink>(alloc: Global, stop: Stop, step: Step, err: &mut E)
     ensures status { HasStatus result.status result.faults }
     ensures fails { result.status ≢ 0 }
     ensures causes { ErrEnds E.meaning stop err.old err.new result }
+    ensures tells { TellsFaults E.meaning err.old err.new result }
 {
     match stop {
         Stop::Fault(fault) => {
@@ -110,6 +119,7 @@ fn kept<E: Sink>(
     ensures status { HasStatus result.status result.faults }
     ensures fails { result.status ≢ 0 }
     ensures causes { ErrReports E.meaning fault err.old err.new result }
+    ensures tells { IfOk text (λ t. IsLine fault (string_bytes t)) → TellsFaults E.meaning err.old err.new result }
 {
     let mut faults = Listing::empty(alloc);
     match keep(err, fault, text, &mut faults) {
@@ -131,6 +141,8 @@ fn keep<E: Sink>(
     ensures some { OnOk result (faults.new ≢ []) }
     ensures finds { OnOk result (ErrFinds E.meaning err.old err.new (faults.old ++ fault ∷ []) faults.new false) }
     ensures lacks { OnErr result (ErrFinds E.meaning err.old err.new (faults.old ++ fault ∷ []) faults.new true) }
+    ensures told { E.meaning.tells err.new → E.meaning.tells err.old }
+    ensures shown { faults.old ≡ [] → IfOk text (λ t. IsLine fault (string_bytes t)) → OnOk result (E.meaning.tells err.new → AreShown E.meaning err.old err.new faults.new) }
 {
     faults.push(fault)?;
     let text = text?;
@@ -154,6 +166,7 @@ pub(crate) fn tell_done<O: Sink>(
 ) -> Result<(), Stop>
     ensures late { IfErr result IsLateStop }
     ensures step { SinkStep (O.meaning.faults out.old) (O.meaning.faults out.new) result }
+    ensures prints { PrintsUpTo O.meaning (requests_text words.now graph.now started.now requests.now ++ progress words.now done_text) out.old out.new result }
 {
     tell_requests(alloc, graph, words, requests, started, out)?;
     say(out, words, done_text(alloc))
@@ -170,6 +183,7 @@ pub(crate) fn tell_requests<O: Sink>(
 ) -> Result<(), Stop>
     ensures late { IfErr result IsLateStop }
     ensures step { SinkStep (O.meaning.faults out.old) (O.meaning.faults out.new) result }
+    ensures prints { PrintsUpTo O.meaning (requests_text words.now graph.now started.now requests.now) out.old out.new result }
 {
     let marks = marks_of(alloc, graph, started)?;
     for request in requests {
@@ -189,6 +203,7 @@ fn tell_request<O: Sink>(
 ) -> Result<(), Stop>
     ensures late { IfErr result IsLateStop }
     ensures step { SinkStep (O.meaning.faults out.old) (O.meaning.faults out.new) result }
+    ensures prints { (started : List RuleId) → AreMarks graph.now started marks.now → PrintsUpTo O.meaning (notice words.now (request_text graph.now started request.now)) out.old out.new result }
 {
     let word = request.word.as_str();
     if request.is_plain {
@@ -201,22 +216,43 @@ fn tell_request<O: Sink>(
 }
 
 /// Which rules were started, by their numbers.
-fn marks_of(alloc: Global, graph: &Graph, started: &[RuleId]) -> Result<Vec<bool>, Memory> {
+fn marks_of(alloc: Global, graph: &Graph, started: &[RuleId]) -> Result<Vec<bool>, Memory>
+    ensures { IfOk result (λ marks. AreMarks graph.now started.now marks.items) }
+{
     let mut marks = Vec::from_elem(alloc, false, graph.rules() as usize)?;
     for rule in started {
-        if let Some(mark) = marks.get_mut(rule.0 as usize) {
-            *mark = true;
-        }
+        mark(&mut marks, rule);
     }
     Ok(marks)
 }
 
+fn mark(marks: &mut Vec<bool>, rule: &RuleId)
+    ensures { marks.new.items ≡ slice_set marks.old.items rule.now.0 true }
+{
+    if let Some(mark) = marks.get_mut(rule.0 as usize) {
+        *mark = true;
+    }
+}
+
 /// Whether the rule of one of these nodes was started.
-fn has_marked(graph: &Graph, marks: &[bool], nodes: &[NodeId]) -> bool {
-    nodes.iter().any(|node| match graph.rule_of(*node) {
+fn has_marked(graph: &Graph, marks: &[bool], nodes: &[NodeId]) -> bool
+    ensures { (started : List RuleId) → AreMarks graph.now started marks.now → result ≡ has_started graph.now started nodes.now }
+{
+    for node in nodes {
+        if is_marked(graph, marks, *node) {
+            return true;
+        }
+    }
+    false
+}
+
+fn is_marked(graph: &Graph, marks: &[bool], node: NodeId) -> bool
+    ensures { (started : List RuleId) → AreMarks graph.now started marks.now → result ≡ is_made_by started (rule_of graph.now.rules node.0) }
+{
+    match graph.rule_of(node) {
         Some(rule) => marks.get(rule.0 as usize) == Some(&true),
         None => false,
-    })
+    }
 }
 
 /// Writes the last line of a run with faults.
@@ -228,16 +264,30 @@ pub(crate) fn tell_faulty<O: Sink>(
 ) -> Result<(), Stop>
     ensures late { IfErr result IsLateStop }
     ensures step { SinkStep (O.meaning.faults out.old) (O.meaning.faults out.new) result }
+    ensures prints { PrintsUpTo O.meaning (progress words.now (closing_text words.now faults.now)) out.old out.new result }
 {
-    if words.keep && faults.iter().all(goes_on) {
+    if words.keep && all_go_on(faults) {
         say(out, words, done_with_errors_text(alloc))
     } else {
         say(out, words, terminated_text(alloc))
     }
 }
 
+fn all_go_on(faults: &[BuildFault]) -> bool
+    ensures { result ≡ list_all goes_on faults.now }
+{
+    for fault in faults {
+        if !goes_on(fault) {
+            return false;
+        }
+    }
+    true
+}
+
 /// Whether a build may go on after a fault.
-fn goes_on(fault: &BuildFault) -> bool {
+fn goes_on(fault: &BuildFault) -> bool
+    ensures { result ≡ goes_on fault.now }
+{
     matches!(
         fault,
         BuildFault::ActionFailed { .. } | BuildFault::Missing { .. } | BuildFault::Cycle(_)
@@ -259,6 +309,8 @@ pub(crate) fn closed(
     ensures status { HasStatus result.status result.faults }
     ensures well { result.status ≡ 0 → (found ≡ []) × (memory ≡ false) }
     ensures causes { Closes found memory written result }
+    ensures whole { result.status ≢ 3 → memory ≡ false }
+    ensures list { result.status ≢ 3 → ClosesWith found written result.faults }
 {
     let mut faults = Listing::empty(alloc);
     let lacks = add_all(&mut faults, found);

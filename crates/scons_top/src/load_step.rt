@@ -1,8 +1,10 @@
 //! A large run over a world in memory: so many rules in chains of ten, built, and built again after an edit of the first
 //! source.
-ghost use Rattle.std.specs.Prelude.{◌≡◌, [], IfOk};
+ghost use Rattle.std.specs.Prelude.{◌≡◌, [], IfOk, string_bytes};
+ghost use Rattle.report_texts.specs.Texts.{load_text};
 ghost use Rattle.world_api.specs.Statuses.{HasStatus};
 ghost use Rattle.world_mem.specs.AsAround.{around_of};
+ghost use Rattle.scons_top.specs.Printed.{PrintsUpTo};
 ghost use Rattle.scons_top.specs.Steps.{RunEndsAt};
 ghost use Rattle.scons_top.specs.Stops.{SinkReports};
 
@@ -28,13 +30,16 @@ pub(crate) fn load<O: Sink>(
     ensures ends { RunEndsAt Step.Load result }
     ensures faults { IfOk result (λ report. report.faults ≡ []) }
     ensures reports { SinkReports O.meaning out.old out.new result }
+    ensures prints { PrintsUpTo O.meaning (load_text rules) out.old out.new result }
     ensures status { IfOk result (λ report. HasStatus report.status report.faults) }
 {
     show(alloc, out, measured(alloc, words, rules), Step::Load)
 }
 
 /// Builds twice over a world in memory, and gives the line that says so.
-fn measured(alloc: Global, words: &Words, rules: u32) -> Result<String, Memory> {
+fn measured(alloc: Global, words: &Words, rules: u32) -> Result<String, Memory>
+    ensures { IfOk result (λ text. string_bytes text ≡ load_text rules) }
+{
     let inner = build_words(alloc, words.jobs)?;
     let mut world = world_of(alloc, rules)?;
     build_once(alloc, &inner, &mut world)?;

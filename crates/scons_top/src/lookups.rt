@@ -2,15 +2,14 @@
 ghost use Rattle.std.specs.Prelude.{IfErr};
 ghost use Rattle.build_files.specs.Causes.{HasLookCause};
 ghost use Rattle.rule_graph.specs.Graphs.{RuleGraph};
+ghost use Rattle.scons_top.specs.Asked.{NamesNone, StopsFor};
 ghost use Rattle.scons_top.specs.Foreign.{StepByBytes};
 ghost use Rattle.scons_top.specs.Requested.{KnowsNodes};
-ghost use Rattle.scons_top.specs.Steps.{StopsAt};
 ghost use Rattle.scons_top.specs.Stops.{WorldStep};
 ghost use Rattle.scons_top.specs.Watching.{Watches};
 
 use crate::below::Below;
 use crate::dry_step::view_of;
-use crate::step::Step;
 use crate::stop::Stop;
 use build_files::{ListEnd, is_copied, is_leftover};
 use deciders::Rec;
@@ -53,7 +52,7 @@ pub(crate) fn is_left_over<W: World>(
 ) -> Result<bool, Stop>
     ensures watches { Watches W.meaning world.old world.new }
     ensures step { WorldStep (W.meaning.counts world.old) (W.meaning.counts world.new) result }
-    ensures stops { IfErr result (StopsAt Step.Requests) }
+    ensures stops { IfErr result (StopsFor NamesNone) }
     ensures bytes { StepByBytes W.meaning world.old world.new result }
 {
     if !is_copied(graph, path) {
@@ -68,7 +67,7 @@ pub(crate) fn is_left_over<W: World>(
 fn read_records<W: World>(alloc: Global, world: &mut W, view: &mut Option<View>) -> Result<(), Stop>
     ensures watches { Watches W.meaning world.old world.new }
     ensures step { WorldStep (W.meaning.counts world.old) (W.meaning.counts world.new) result }
-    ensures stops { IfErr result (StopsAt Step.Requests) }
+    ensures stops { IfErr result (StopsFor NamesNone) }
     ensures bytes { StepByBytes W.meaning world.old world.new result }
 {
     if view.is_some() {

@@ -1,15 +1,14 @@
 //! The members of an alias: each is a target, a file or a directory.
 ghost use Rattle.std.specs.Prelude.{◌≡◌, IfErr};
 ghost use Rattle.build_files.specs.Causes.{HasLookCause};
+ghost use Rattle.scons_top.specs.Asked.{IsNoPath, NamesNone, StopsFor};
 ghost use Rattle.scons_top.specs.Foreign.{StepByBytes, StopsByBytes};
-ghost use Rattle.scons_top.specs.Steps.{StopsAt};
 ghost use Rattle.scons_top.specs.Stops.{WorldStep, IsInside};
 ghost use Rattle.scons_top.specs.Watching.{Watches};
 ghost use Rattle.world_api.specs.Banks.{Banks};
 
 use crate::lookups::{Lookups, is_left_over};
-use crate::requests::{kind_of, unknown};
-use crate::step::Step;
+use crate::requests::{kind_of, path_in, unknown};
 use crate::stop::Stop;
 use build_files::{ListEnd, has_copy_rule, path_of};
 use rule_graph::{BuildFault, Graph};
@@ -30,7 +29,7 @@ pub(crate) fn check_members<W: World>(
 ) -> Result<(), Stop>
     ensures watches { Watches W.meaning world.old world.new }
     ensures step { WorldStep (W.meaning.counts world.old) (W.meaning.counts world.new) result }
-    ensures stops { IfErr result (StopsAt Step.Requests) }
+    ensures stops { IfErr result (StopsFor (IsNoPath word.now)) }
     ensures bytes { StepByBytes W.meaning world.old world.new result }
     ensures below { lookups.new.below ≡ lookups.old.below }
 {
@@ -54,7 +53,7 @@ fn check_member<W: World>(
 ) -> Result<(), Stop>
     ensures watches { Watches W.meaning world.old world.new }
     ensures step { WorldStep (W.meaning.counts world.old) (W.meaning.counts world.new) result }
-    ensures stops { IfErr result (StopsAt Step.Requests) }
+    ensures stops { IfErr result (StopsFor (IsNoPath word.now)) }
     ensures bytes { StepByBytes W.meaning world.old world.new result }
 {
     if graph.rule_of(member).is_some() {
@@ -77,7 +76,7 @@ fn is_there<W: World>(
 ) -> Result<bool, Stop>
     ensures watches { Watches W.meaning world.old world.new }
     ensures step { WorldStep (W.meaning.counts world.old) (W.meaning.counts world.new) result }
-    ensures stops { IfErr result (StopsAt Step.Requests) }
+    ensures stops { IfErr result (StopsFor NamesNone) }
     ensures bytes { StepByBytes W.meaning world.old world.new result }
 {
     if !stands(world, graph, path)? {
@@ -108,12 +107,14 @@ fn is_made<W: World>(world: &mut W, graph: &Graph, path: &PathText) -> Result<bo
 
 /// The fault that a member of an alias isn't there. An alias may have a name that is no path.
 fn missing(alloc: Global, word: &Text, path: &PathText) -> Stop
-    ensures stops { StopsAt Step.Requests result }
+    ensures stops { StopsFor (IsNoPath word.now) result }
     ensures bytes { (banks : Banks) → StopsByBytes banks result }
     ensures inside { IsInside result }
 {
-    let Ok(target) = PathText::read(alloc, word.as_str()) else {
-        return unknown(word);
+    let target = match path_in(alloc, word) {
+        Ok(Some(target)) => target,
+        Ok(None) => return unknown(word),
+        Err(_) => return Stop::Memory,
     };
     match path.copy() {
         Ok(node) => Stop::Build(BuildFault::Missing { node, target }),

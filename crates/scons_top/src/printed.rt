@@ -1,6 +1,8 @@
 //! What a run writes on standard output besides the lines of rules.
-ghost use Rattle.std.specs.Prelude.{IfErr};
+ghost use Rattle.std.specs.Prelude.{◌≡◌, ℕ, List, IfErr, IfOk, string_bytes};
 ghost use Rattle.scons_top.specs.Faults.{IsLateStop};
+ghost use Rattle.scons_top.specs.Printed.{PrintsUpTo};
+ghost use Rattle.scons_top.specs.RunLines.{notice, progress};
 ghost use Rattle.scons_top.specs.Stops.{SinkStep};
 
 use crate::stop::Stop;
@@ -16,6 +18,7 @@ pub(crate) fn say<O: Sink>(
 ) -> Result<(), Stop>
     ensures late { IfErr result IsLateStop }
     ensures step { SinkStep (O.meaning.faults out.old) (O.meaning.faults out.new) result }
+    ensures prints { (line : List ℕ) → IfOk text (λ t. string_bytes t ≡ line) → PrintsUpTo O.meaning (progress words.now line) out.old out.new result }
 {
     if words.quiet || words.silent {
         return Ok(());
@@ -31,6 +34,7 @@ pub(crate) fn tell<O: Sink>(
 ) -> Result<(), Stop>
     ensures late { IfErr result IsLateStop }
     ensures step { SinkStep (O.meaning.faults out.old) (O.meaning.faults out.new) result }
+    ensures prints { (line : List ℕ) → IfOk text (λ t. string_bytes t ≡ line) → PrintsUpTo O.meaning (notice words.now line) out.old out.new result }
 {
     if words.silent {
         return Ok(());
@@ -43,6 +47,7 @@ pub(crate) fn tell<O: Sink>(
 pub(crate) fn print_text<O: Sink>(out: &mut O, text: Result<String, Memory>) -> Result<(), Stop>
     ensures late { IfErr result IsLateStop }
     ensures step { SinkStep (O.meaning.faults out.old) (O.meaning.faults out.new) result }
+    ensures prints { (line : List ℕ) → IfOk text (λ t. string_bytes t ≡ line) → PrintsUpTo O.meaning (line) out.old out.new result }
 {
     let text = text?;
     print(out, text.as_str())?;

@@ -1,6 +1,8 @@
 //! The reading of the scripts.
 ghost use Rattle.std.specs.Prelude.{IfErr};
 ghost use Rattle.scons_host.specs.Causes.{ReadingCauses};
+ghost use Rattle.scons_host.specs.Prints.{Prints};
+ghost use Rattle.scons_top.specs.Printed.{ReadPrints};
 ghost use Rattle.scons_top.specs.Steps.{IsReadingStep, StopsAt};
 ghost use Rattle.scons_top.specs.Stops.{IsTopStop, OutSteps, WorldStep};
 ghost use Rattle.scons_top.specs.Watching.{Watches};
@@ -29,6 +31,7 @@ pub(crate) fn read<W: World, O: Sink>(
     ensures stops { IfErr result (StopsAt at.new) }
     ensures watches { Watches W.meaning world.old world.new }
     ensures steps { OutSteps W.meaning O.meaning world.old out.old world.new out.new result }
+    ensures prints { ReadPrints O.meaning words.now at.new out.old out.new result }
 {
     *at = Step::Top;
     ask_for_top(alloc, world)?;
@@ -49,6 +52,7 @@ fn graph_of<W: World, O: Sink>(
 ) -> Result<Graph, HostEnd>
     ensures watches { Watches W.meaning world.old world.new }
     ensures causes { ReadingCauses W.meaning O.meaning world.old out.old world.new out.new result }
+    ensures prints { Prints O.meaning out.old out.new }
 {
     read_scripts(alloc, world, out, words)
 }

@@ -1,9 +1,9 @@
 //! What the words ask for.
-ghost use Rattle.std.specs.Prelude.{◌≡◌, IfErr, IfOk};
+ghost use Rattle.std.specs.Prelude.{◌≡◌, [], false, map, IfErr, IfOk};
 ghost use Rattle.build_files.specs.Causes.{HasLookCause};
+ghost use Rattle.scons_top.specs.Asked.{asked_by, asked_of, is_target, word_of, words_asked, IsReadAs, IsUnknownAs, IsUnknownOf, IsWord, IsWordIn, NamesNone, StopsFor};
 ghost use Rattle.scons_top.specs.Foreign.{StepByBytes, StepOnNone, StopsByBytes};
 ghost use Rattle.scons_top.specs.Requested.{AsksForNodes, AskForNodes, HasMore, KnowsNodes};
-ghost use Rattle.scons_top.specs.Steps.{StopsAt};
 ghost use Rattle.scons_top.specs.Stops.{WorldStep, InnerStep, IsInside};
 ghost use Rattle.scons_top.specs.Watching.{Watches};
 ghost use Rattle.world_api.specs.Banks.{Banks};
@@ -11,11 +11,10 @@ ghost use Rattle.world_api.specs.Banks.{Banks};
 use crate::lookups::{Lookups, is_left_over};
 use crate::members::check_members;
 use crate::report::Top;
-use crate::step::Step;
 use crate::stop::Stop;
 use build_files::{ListEnd, has_copy_rule};
 use rule_graph::{Graph, Wish};
-use scons_base::{Memory, NodeId, PathText, Text, Texts};
+use scons_base::{Memory, NodeId, PathFault, PathText, Text, Texts};
 use scons_words::Words;
 use std::alloc::Global;
 use world_api::{Kind, World};
@@ -41,8 +40,9 @@ pub(crate) fn requests_of<W: World>(
 ) -> Result<Vec<Request>, Stop>
     ensures watches { Watches W.meaning world.old world.new }
     ensures step { WorldStep (W.meaning.counts world.old) (W.meaning.counts world.new) result }
-    ensures stops { IfErr result (StopsAt Step.Requests) }
+    ensures stops { IfErr result (StopsFor (IsUnknownOf graph.new (asked_by graph.old words.now))) }
     ensures bytes { StepByBytes W.meaning world.old world.new result }
+    ensures words { IfOk result (λ requests. words_asked requests.items ≡ asked_by graph.old words.now) }
     ensures nodes { IfOk result (λ requests. AskForNodes graph.new requests.items) }
 {
     let asked = match words.requested.as_slice() {
@@ -62,8 +62,9 @@ fn requests_for<W: World>(
 ) -> Result<Vec<Request>, Stop>
     ensures watches { Watches W.meaning world.old world.new }
     ensures step { WorldStep (W.meaning.counts world.old) (W.meaning.counts world.new) result }
-    ensures stops { IfErr result (StopsAt Step.Requests) }
+    ensures stops { IfErr result (StopsFor (IsUnknownOf graph.new asked.now)) }
     ensures bytes { StepByBytes W.meaning world.old world.new result }
+    ensures words { IfOk result (λ requests. words_asked requests.items ≡ asked.now) }
     ensures nodes { IfOk result (λ requests. AskForNodes graph.new requests.items) }
 {
     let mut requests = Vec::new(alloc);
@@ -75,19 +76,34 @@ fn requests_for<W: World>(
 }
 
 /// The words that the defaults stand for.
-fn defaults_of(alloc: Global, graph: &Graph) -> Result<Texts, Memory> {
-    let mut words = Vec::new(alloc);
-    for wish in graph.defaults() {
-        let word = match wish {
-            Wish::Alias(name) => name.copy()?,
-            Wish::Path(path) => Text::of(alloc, path.as_str())?,
-        };
-        words.push(word)?;
-    }
+fn defaults_of(alloc: Global, graph: &Graph) -> Result<Texts, Memory>
+    ensures { IfOk result (λ words. words ≡ asked_of graph.now.defaults []) }
+{
+    let words = words_of(alloc, graph.defaults())?;
     if words.is_empty() {
-        words.push(Text::of(alloc, ".")?)?;
+        return Ok(Texts::new(vec![in alloc; Text::of(alloc, ".")?]?));
     }
     Ok(Texts::new(words))
+}
+
+/// Defaults as words.
+fn words_of(alloc: Global, wishes: &[Wish]) -> Result<Vec<Text>, Memory>
+    ensures { IfOk result (λ words. words.items ≡ map word_of wishes.now) }
+{
+    let mut words = Vec::new(alloc);
+    for wish in wishes {
+        words.push(word_for(alloc, wish)?)?;
+    }
+    Ok(words)
+}
+
+fn word_for(alloc: Global, wish: &Wish) -> Result<Text, Memory>
+    ensures { IfOk result (λ word. word ≡ word_of wish.now) }
+{
+    match wish {
+        Wish::Alias(name) => name.copy(),
+        Wish::Path(path) => Text::of(alloc, path.as_str()),
+    }
 }
 
 /// What a word stands for: an alias, a path that has a rule, a file, or a directory.
@@ -101,10 +117,11 @@ fn request_of<W: World>(
 ) -> Result<Request, Stop>
     ensures watches { Watches W.meaning world.old world.new }
     ensures step { WorldStep (W.meaning.counts world.old) (W.meaning.counts world.new) result }
-    ensures stops { IfErr result (StopsAt Step.Requests) }
+    ensures stops { IfErr result (StopsFor (IsUnknownAs graph.new word.now)) }
     ensures bytes { StepByBytes W.meaning world.old world.new result }
     ensures more { HasMore graph.old graph.new }
     ensures knows { KnowsNodes graph.old lookups.old.below → KnowsNodes graph.new lookups.new.below }
+    ensures word { IfOk result (λ request. request.word ≡ word.now) }
     ensures nodes { KnowsNodes graph.old lookups.old.below → IfOk result (AsksForNodes graph.new) }
 {
     if let Some(members) = graph.alias(word.as_str()) {
@@ -112,7 +129,7 @@ fn request_of<W: World>(
         check_members(alloc, world, graph, lookups, word, nodes.as_slice())?;
         return made(word, nodes);
     }
-    let Ok(path) = PathText::read(alloc, word.as_str()) else {
+    let Some(path) = path_in(alloc, word)? else {
         return Err(unknown(word));
     };
     let path = path.spelled(graph.top())?;
@@ -133,10 +150,11 @@ fn file_request<W: World>(
 ) -> Result<Request, Stop>
     ensures watches { Watches W.meaning world.old world.new }
     ensures step { WorldStep (W.meaning.counts world.old) (W.meaning.counts world.new) result }
-    ensures stops { IfErr result (StopsAt Step.Requests) }
+    ensures stops { IfErr result (StopsFor (IsWordIn graph.old graph.new word.now)) }
     ensures bytes { StepByBytes W.meaning world.old world.new result }
     ensures more { HasMore graph.old graph.new }
     ensures knows { KnowsNodes graph.old lookups.old.below → KnowsNodes graph.new lookups.new.below }
+    ensures word { IfOk result (λ request. request.word ≡ word.now) }
     ensures nodes { KnowsNodes graph.old lookups.old.below → IfOk result (AsksForNodes graph.new) }
 {
     match kind_of(world, path)? {
@@ -157,10 +175,11 @@ fn plain_request<W: World>(
 ) -> Result<Request, Stop>
     ensures watches { Watches W.meaning world.old world.new }
     ensures step { WorldStep (W.meaning.counts world.old) (W.meaning.counts world.new) result }
-    ensures stops { IfErr result (StopsAt Step.Requests) }
+    ensures stops { IfErr result (StopsFor (IsWordIn graph.old graph.new word.now)) }
     ensures bytes { StepByBytes W.meaning world.old world.new result }
     ensures more { HasMore graph.old graph.new }
     ensures knows { KnowsNodes graph.old lookups.old.below → KnowsNodes graph.new lookups.new.below }
+    ensures word { IfOk result (λ request. request.word ≡ word.now) }
     ensures nodes { KnowsNodes graph.old lookups.old.below → IfOk result (AsksForNodes graph.new) }
 {
     if is_left_over(alloc, world, graph, &mut lookups.view, path)? {
@@ -178,9 +197,10 @@ fn absent_request(
     path: &PathText,
 ) -> Result<Request, Stop>
     ensures step { InnerStep result }
-    ensures stops { IfErr result (StopsAt Step.Requests) }
+    ensures stops { IfErr result (StopsFor (IsWord word.now)) }
     ensures bytes { StepOnNone result }
     ensures knows { KnowsNodes graph.now lookups.old.below → KnowsNodes graph.now lookups.new.below }
+    ensures word { IfOk result (λ request. request.word ≡ word.now) }
     ensures nodes { KnowsNodes graph.now lookups.old.below → IfOk result (AsksForNodes graph.now) }
 {
     let nodes = lookups.below.targets_below(alloc, graph, path)?;
@@ -199,9 +219,10 @@ fn node_request(
     is_plain: bool,
 ) -> Result<Request, Stop>
     ensures step { InnerStep result }
-    ensures stops { IfErr result (StopsAt Step.Requests) }
+    ensures stops { IfErr result (StopsFor NamesNone) }
     ensures bytes { StepOnNone result }
     ensures more { HasMore graph.old graph.new }
+    ensures word { IfOk result (λ request. request.word ≡ word.now) }
     ensures nodes { IfOk result (AsksForNodes graph.new) }
 {
     let nodes = vec![in alloc; graph.intern(path)?]?;
@@ -216,8 +237,9 @@ fn node_request(
 /// The request of what lies behind a word that is no node's path.
 fn made(word: &Text, nodes: Vec<NodeId>) -> Result<Request, Stop>
     ensures step { InnerStep result }
-    ensures stops { IfErr result (StopsAt Step.Requests) }
+    ensures stops { IfErr result (StopsFor NamesNone) }
     ensures bytes { StepOnNone result }
+    ensures word { IfOk result (λ request. request.word ≡ word.now) }
     ensures nodes { IfOk result (λ request. request.nodes ≡ nodes) }
 {
     Ok(Request {
@@ -228,9 +250,20 @@ fn made(word: &Text, nodes: Vec<NodeId>) -> Result<Request, Stop>
     })
 }
 
+/// A word as a path, if it is one.
+pub(crate) fn path_in(alloc: Global, word: &Text) -> Result<Option<PathText>, Memory>
+    ensures { IfOk result (IsReadAs word.now) }
+{
+    match PathText::read(alloc, word.as_str()) {
+        Ok(path) => Ok(Some(path)),
+        Err(PathFault::Memory) => Err(Memory),
+        Err(_) => Ok(None),
+    }
+}
+
 /// The fault that a word stands for nothing.
 pub(crate) fn unknown(word: &Text) -> Stop
-    ensures stops { StopsAt Step.Requests result }
+    ensures stops { StopsFor (IsWord word.now) result }
     ensures bytes { (banks : Banks) → StopsByBytes banks result }
     ensures inside { IsInside result }
 {
@@ -245,10 +278,21 @@ pub(crate) fn unknown(word: &Text) -> Stop
 fn has_rule<W: World>(world: &mut W, graph: &Graph, path: &PathText) -> Result<bool, ListEnd>
     ensures watches { Watches W.meaning world.old world.new }
     ensures cause { HasLookCause (W.meaning.counts world.old) (W.meaning.counts world.new) result }
+    ensures none { IfOk result (λ has. has ≡ false → is_target graph.now path.now ≡ false) }
+{
+    if is_declared(graph, path) {
+        return Ok(true);
+    }
+    has_copy_rule(world, graph, path)
+}
+
+/// Whether a path is a target of a declared rule.
+fn is_declared(graph: &Graph, path: &PathText) -> bool
+    ensures { result ≡ is_target graph.now path.now }
 {
     match graph.find(path) {
-        Some(node) if graph.rule_of(node).is_some() => Ok(true),
-        _ => has_copy_rule(world, graph, path),
+        Some(node) => graph.rule_of(node).is_some(),
+        None => false,
     }
 }
 

@@ -3,10 +3,9 @@ ghost use Rattle.std.specs.Prelude.{◌≡◌};
 ghost use Rattle.world_api.specs.Banks.{Banks};
 ghost use Rattle.rule_graph.specs.declared.build_fault.BuildFault.TheVariants as fault;
 ghost use Rattle.scons_top.specs.declared.stop.Stop.TheVariants as stop;
+ghost use Rattle.scons_top.specs.Asked.{NamesNone, StopsFor};
 ghost use Rattle.scons_top.specs.Faults.{IsLateStop};
-ghost use Rattle.scons_top.specs.declared.step.Step.TheVariants as step;
 ghost use Rattle.scons_top.specs.Foreign.{StopsByBytes};
-ghost use Rattle.scons_top.specs.Steps.{StopsAt};
 ghost use Rattle.scons_top.specs.Stops.{IsInside, stop_of_words, stop_of_list, stop_of_host, stop_of_store};
 
 use crate::report::Top;
@@ -75,7 +74,7 @@ impl From<ListEnd> for Stop {
 }
 
 impl From<NodeRefusal> for Stop {
-    ghost from_gives = { λ _ s. IsInside s × StopsAt step.Requests s × ((banks : Banks) → StopsByBytes banks s) };
+    ghost from_gives = { λ _ s. IsInside s × StopsFor NamesNone s × ((banks : Banks) → StopsByBytes banks s) };
 
     fn from(refusal: NodeRefusal) -> Self {
         match refusal {

@@ -10,7 +10,7 @@ use scons_words::UsageKind;
 use std::alloc::Global;
 use world_api::Bank;
 
-/// The line of a fault that no build finds. The others have none here.
+/// The line of a fault that no build finds. The others have none here, and no run stops for them so.
 pub(crate) fn top_text(alloc: Global, fault: &Top) -> Result<String, Memory>
     ensures { IfOk result (λ text. IsTopText fault.now (string_bytes text)) }
 {
@@ -19,7 +19,7 @@ pub(crate) fn top_text(alloc: Global, fault: &Top) -> Result<String, Memory>
         Top::Reading(file, line, kind) => reading_text(alloc, file, *line, kind),
         Top::UnknownTarget(word) => unknown_text(alloc, word),
         Top::StoreForeign(bank) => foreign_text(alloc, *bank),
-        _ => Ok(String::new(alloc)),
+        _ => Err(Memory),
     }
 }
 

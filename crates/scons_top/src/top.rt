@@ -1,10 +1,13 @@
 //! The steps of a run.
 ghost use Rattle.std.specs.Prelude.{◌≡◌, ◌≢◌, [], ℕ, Ok, Err, IfOk, IfErr, Contains, IsSome, IsTrue};
 ghost use Rattle.build_run.specs.Goings.{Passes};
+ghost use Rattle.scons_top.specs.Asked.{StopsUnknown, TellUnknown};
 ghost use Rattle.scons_top.specs.Builds.{Builds, RunBuilds};
 ghost use Rattle.scons_top.specs.Causes.{RunCauses};
 ghost use Rattle.scons_top.specs.Cleaned.{Cleans, RunCleans};
 ghost use Rattle.scons_top.specs.Foreign.{RunByBytes, TellsBytes};
+ghost use Rattle.report_texts.specs.Texts.{help_text};
+ghost use Rattle.scons_top.specs.Printed.{PrintsUpTo, RunPrints, ServePrints};
 ghost use Rattle.scons_top.specs.Requested.{AskForNodes};
 ghost use Rattle.scons_top.specs.Steps.{AllComeAt, ComesTo, IsRefused, LeavesAt, RefusesWords, RunEndsAt, RunsTo, ServesAt, TellsUsage};
 ghost use Rattle.scons_top.specs.Stopping.{RunsSafely};
@@ -13,6 +16,7 @@ ghost use Rattle.scons_top.specs.Faults.{IsEarly, IsEarlyStop, EarlyOnlyIf};
 ghost use Rattle.world_api.specs.Statuses.{HasStatus};
 ghost use Rattle.scons_top.specs.declared.report.Top.{Top};
 ghost use Rattle.world_api.specs.Looks.{Looks};
+ghost use Rattle.scons_top.specs.Told.{TellsFaults, TellsOrStops};
 ghost use Rattle.scons_words.specs.Readings.{read};
 ghost use Rattle.scons_words.specs.declared.words.Words.{Words};
 ghost use Rattle.scons_words.specs.declared.fault.UsageKind.{UsageKind};
@@ -58,6 +62,7 @@ pub fn scons<W: World, O: Sink, E: Sink>(
     ensures bytes { W.meaning.tells world.new → TellsBytes (W.meaning.seen world.old) result.step result.faults }
     ensures refused { (why : WordsFault) → read words.now ≡ Err why → RefusesWords why world.old world.new out.old out.new result }
     ensures usage { (place : ℕ) (kind : UsageKind) → Contains result.faults (Top.Usage place kind) → read words.now ≡ Err (At place kind) }
+    ensures unknown { (said : Words) → read words.now ≡ Ok said → TellUnknown said result.faults }
     ensures load { (said : Words) → read words.now ≡ Ok said → IsSome said.load → world.new ≡ world.old }
     ensures cleans { (said : Words) → read words.now ≡ Ok said → Cleans W.meaning said world.old world.new result }
     ensures idle { W.meaning.tells world.new → (W.meaning.around world.new).running ≡ [] }
@@ -68,6 +73,8 @@ pub fn scons<W: World, O: Sink, E: Sink>(
     ensures safe { RunsSafely W.meaning world.old world.new }
     ensures status { HasStatus result.status result.faults }
     ensures causes { RunCauses W.meaning O.meaning E.meaning world.old out.old err.old world.new out.new err.new result }
+    ensures prints { (said : Words) → read words.now ≡ Ok said → RunPrints W.meaning O.meaning said result.step world.old out.old world.new out.new (Ok result) }
+    ensures tells { TellsFaults E.meaning err.old err.new result }
 {
     let mut at = Step::Words;
     match take_words(alloc, words, world, out, err, &mut at) {
@@ -93,11 +100,14 @@ fn take_words<W: World, O: Sink, E: Sink>(
     ensures bytes { RunByBytes W.meaning at.new world.old world.new result }
     ensures refused { (why : WordsFault) → read words.now ≡ Err why → IsRefused why at.new world.old world.new out.old out.new result }
     ensures usage { IfErr result (TellsUsage (read words.now)) }
+    ensures unknown { (said : Words) → read words.now ≡ Ok said → IfErr result (StopsUnknown said) }
     ensures past { IfOk result (λ report. at.new ≢ Step.Words) }
     ensures load { (said : Words) → read words.now ≡ Ok said → IsSome said.load → world.new ≡ world.old }
     ensures cleans { (said : Words) → read words.now ≡ Ok said → RunCleans W.meaning said at.new world.old world.new result }
     ensures passes { Passes W.meaning world.old world.new }
     ensures reports { Reports W.meaning O.meaning E.meaning world.old out.old err.old world.new out.new err.new result }
+    ensures prints { (said : Words) → read words.now ≡ Ok said → RunPrints W.meaning O.meaning said at.new world.old out.old world.new out.new result }
+    ensures tells { TellsOrStops E.meaning err.old err.new result }
     ensures idle { W.meaning.tells world.new → (W.meaning.around world.new).running ≡ [] }
     ensures dry { (said : Words) → read words.now ≡ Ok said → IsTrue said.dry → Looks W.meaning world.old world.new }
     ensures help { (said : Words) → read words.now ≡ Ok said → IsTrue said.help → Looks W.meaning world.old world.new }
@@ -133,9 +143,12 @@ pub(crate) fn run<W: World, O: Sink, E: Sink>(
     ensures leaves { LeavesAt W.meaning at.new world.old world.new }
     ensures ends { RunEndsAt at.new result }
     ensures bytes { RunByBytes W.meaning at.new world.old world.new result }
+    ensures unknown { IfErr result (StopsUnknown words.now) }
     ensures cleans { RunCleans W.meaning words.now at.new world.old world.new result }
     ensures passes { Passes W.meaning world.old world.new }
     ensures reports { Reports W.meaning O.meaning E.meaning world.old out.old err.old world.new out.new err.new result }
+    ensures prints { RunPrints W.meaning O.meaning words.now at.new world.old out.old world.new out.new result }
+    ensures tells { TellsOrStops E.meaning err.old err.new result }
     ensures idle { W.meaning.tells world.new → (W.meaning.around world.new).running ≡ [] }
     ensures dry { IsTrue words.now.dry → Looks W.meaning world.old world.new }
     ensures help { IsTrue words.now.help → Looks W.meaning world.old world.new }
@@ -168,6 +181,7 @@ pub(crate) fn run<W: World, O: Sink, E: Sink>(
 fn help<O: Sink>(alloc: Global, graph: &Graph, out: &mut O) -> Result<Report, Stop>
     ensures ends { RunEndsAt Step.Help result }
     ensures reports { SinkReports O.meaning out.old out.new result }
+    ensures prints { PrintsUpTo O.meaning (help_text graph.now.helps) out.old out.new result }
     ensures faults { IfOk result (λ report. report.faults ≡ []) }
     ensures status { IfOk result (λ report. HasStatus report.status report.faults) }
 {
@@ -194,6 +208,8 @@ fn serve<W: World, O: Sink, E: Sink>(
     ensures cleans { AskForNodes graph.old requests.now → RunCleans W.meaning words.now at.new world.old world.new result }
     ensures passes { Passes W.meaning world.old world.new }
     ensures reports { Reports W.meaning O.meaning E.meaning world.old out.old err.old world.new out.new err.new result }
+    ensures prints { AskForNodes graph.old requests.now → ServePrints W.meaning O.meaning words.now at.new graph.old requests.now world.old out.old world.new out.new result }
+    ensures tells { TellsOrStops E.meaning err.old err.new result }
     ensures idle { W.meaning.tells world.new → (W.meaning.around world.new).running ≡ [] }
     ensures dry { IsTrue words.now.dry → Looks W.meaning world.old world.new }
     ensures builds { AskForNodes graph.old requests.now → RunBuilds W.meaning words.now world.old world.new result }

@@ -4,6 +4,7 @@ ghost use Rattle.scons_top.specs.Causes.{RunCauses};
 ghost use Rattle.scons_top.specs.Faults.{IsLateStop, EarlyOnlyIf};
 ghost use Rattle.scons_top.specs.Steps.{ReportsAt, RunEndsAt};
 ghost use Rattle.scons_top.specs.Stops.{Reports};
+ghost use Rattle.scons_top.specs.Told.{TellsFaults, TellsOrStops};
 ghost use Rattle.scons_top.specs.Trees.{AreTreesCaused};
 ghost use Rattle.scons_top.specs.Watching.{Watches};
 ghost use Rattle.world_api.specs.Statuses.{HasStatus};
@@ -37,6 +38,8 @@ pub(crate) fn tell_trees<W: World, O: Sink, E: Sink>(
 ) -> Report
     ensures watches { Watches W.meaning world.old world.new }
     ensures causes { RunCauses W.meaning O.meaning E.meaning world.old out.old err.old world.new out.new err.new result }
+    ensures tells { TellsFaults E.meaning err.old err.new result }
+    ensures out { O.meaning.tells out.new → O.meaning.tells out.old }
     ensures ends { ReportsAt Step.Building result }
     ensures faults { EarlyOnlyIf ⊥ result.faults }
     ensures status { HasStatus result.status result.faults }
@@ -64,6 +67,8 @@ fn show_trees<W: World, O: Sink, E: Sink>(
 ) -> Result<Report, Stop>
     ensures watches { Watches W.meaning world.old world.new }
     ensures reports { Reports W.meaning O.meaning E.meaning world.old out.old err.old world.new out.new err.new result }
+    ensures tells { TellsOrStops E.meaning err.old err.new result }
+    ensures out { O.meaning.tells out.new → O.meaning.tells out.old }
     ensures ends { RunEndsAt Step.Building result }
     ensures late { IfErr result IsLateStop }
     ensures faults { IfOk result (λ report. EarlyOnlyIf ⊥ report.faults) }
@@ -95,6 +100,7 @@ fn print_trees<W: World, O: Sink>(
 ) -> Result<(), TreeEnd>
     ensures watches { Watches W.meaning world.old world.new }
     ensures cause { AreTreesCaused W.meaning O.meaning world.old out.old world.new out.new result }
+    ensures out { O.meaning.tells out.new → O.meaning.tells out.old }
 {
     for request in requests {
         print_tree(alloc, graph, declared, request, world, out)?;
@@ -112,6 +118,7 @@ fn print_tree<W: World, O: Sink>(
 ) -> Result<(), TreeEnd>
     ensures watches { Watches W.meaning world.old world.new }
     ensures cause { AreTreesCaused W.meaning O.meaning world.old out.old world.new out.new result }
+    ensures out { O.meaning.tells out.new → O.meaning.tells out.old }
 {
     let word = request.word.as_str();
     let nodes = request.nodes.as_slice();

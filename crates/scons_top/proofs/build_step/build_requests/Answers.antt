@@ -1,9 +1,13 @@
+use Rattle.report_texts.specs.Texts.{building_text}
+use Rattle.scons_top.proofs.Serving.{serve_built, serve_treed, serve_unbuilt, serve_unopened}
+use Rattle.scons_top.proofs.Telling.{stops_silent, tells_behind, tells_closed}
+use Rattle.build_run.specs.Causes.{Outside}
 use Rattle.std.specs.Prelude.{Ok}
 use Rattle.scons_top.proofs.Opening.{stops_unopened, building_ends}
 use Rattle.scons_top.specs.declared.step.Step.TheVariants as step
 use Rattle.scons_top.proofs.Stepping.{ends_memory, ends_exit, reports_at, sink_at, building_at}
 use Rattle.scons_top.proofs.Stopping.{runs_looked, steps_begun, steps_here, steps_on}
-use Rattle.std.proofs.Common.{◌∙◌, inl, refl, subst, sym, inr}
+use Rattle.std.proofs.Common.{◌∙◌, ap, inl, refl, subst, sym, inr}
 use Rattle.scons_top.proofs.Causing.{same_world, same_out, exit_report, report_memory, world_stop, sink_stop, stop_back, caused_back, build_found}
 use Rattle.world_api.proofs.Looking.{looks_same}
 use Rattle.sign_store.specs.Stores.{map_of}
@@ -31,7 +35,7 @@ returns-in_err-say-clause-reports g c =
 pub returns-clause-reports : goal.returns-clause-reports
 returns-clause-reports g c =
     let same = same_out _ _ _ _ c.in_ok-say.ensures.step ∙ same_world _ _ _ _ c.in_ok-store.ensures.step in
-    caused_back _ _ _ c.closed.result same (c.closed.ensures.causes _ _ _ _ _ (build_found _ _ _ _ c.build-end.ensures.causes) c.tell_end-written.ensures)
+    caused_back _ _ _ c.closed.result same (c.closed.ensures.causes _ _ _ _ _ (build_found _ _ _ _ c.build-end.ensures.causes) c.tell_end-written.ensures.step)
 
 pub returns-clause-passes : goal.returns-clause-passes
 returns-clause-passes g c =
@@ -188,3 +192,54 @@ returns-then-has_trees-clause-bytes g c = λ t. building_ends _ (Ok c.tell_trees
 
 pub returns-clause-bytes : goal.returns-clause-bytes
 returns-clause-bytes g c = λ t. building_ends _ (Ok c.closed.result) (c.in_ok-store.ensures.readable (c.build-end.ensures.told.told t)) (returns-clause-ends g c)
+
+pub returns-in_err-nodes-clause-prints : goal.returns-in_err-nodes-clause-prints
+returns-in_err-nodes-clause-prints g c = λ asks.
+    serve_unopened g.W.Disk.meaning g.O.Sink.meaning c.args.words.now c.args.graph.now c.args.requests.now c.args.world.now c.args.world.now c.args.out.now c.from_residual.result
+
+pub returns-in_err-store-clause-prints : goal.returns-in_err-store-clause-prints
+returns-in_err-store-clause-prints g c = λ asks.
+    serve_unopened g.W.Disk.meaning g.O.Sink.meaning c.args.words.now c.args.graph.now c.args.requests.now c.args.world.now c.args.world.now c.args.out.now c.from_residual-in_err-store.result
+
+pub returns-in_err-say-clause-prints : goal.returns-in_err-say-clause-prints
+returns-in_err-say-clause-prints g c = λ asks.
+    let r = c.from_residual-in_err-say in
+    let h = c.in_err-say.ensures.prints building_text c.building_text.ensures in
+    serve_unbuilt g.W.Disk.meaning g.O.Sink.meaning c.args.words.now c.args.graph.now c.args.requests.now c.args.world.now _ c.args.out.now _ r.result _ r.ensures.1 h.0 h.1
+
+pub returns-then-has_trees-clause-prints : goal.returns-then-has_trees-clause-prints
+returns-then-has_trees-clause-prints g c = λ asks.
+    serve_treed g.W.Disk.meaning g.O.Sink.meaning c.args.words.now c.args.graph.now c.args.requests.now c.args.world.now _ c.args.out.now _ c.tell_trees.result
+    (c.has_trees.ensures.tree c.if-has_trees.true)
+    (λ t. (c.in_ok-say.ensures.prints building_text c.building_text.ensures).told (c.build-end.ensures.prints.told (c.tell_trees.ensures.out t)))
+
+pub returns-clause-prints : goal.returns-clause-prints
+returns-clause-prints g c = λ asks.
+    let graph = c.args.graph.now in
+    let requested = c.as_slice.result.now in
+    let nodes = subst (AreNodes graph) (sym c.as_slice.ensures.value) (c.in_ok-nodes.ensures.nodes graph asks) in
+    let store = c.in_ok-store in
+    let end = c.build-end in
+    serve_built g.W.Disk.meaning g.O.Sink.meaning c.args.words.now graph end.new.graph c.args.requests.now requested c.args.world.now c.begin_store.new.world end.new.world
+    c.args.out.now _ end.new.out c.tell_end-written.new.out (map_of store.store) (map_of end.new.store) end.result c.tell_end-written.result c.closed.result
+    (c.as_slice.ensures.value ∙ c.in_ok-nodes.ensures.are) (are_below_all graph requested nodes) store.ensures.begins end.ensures.told.told store.ensures.map
+    (c.in_ok-say.ensures.prints building_text c.building_text.ensures) end.ensures.prints c.tell_end-written.ensures.prints c.closed.ensures.whole c.closed.ensures.list
+
+pub returns-in_err-nodes-clause-tells : goal.returns-in_err-nodes-clause-tells
+returns-in_err-nodes-clause-tells g c = stops_silent g.E.Sink.meaning c.args.err.now _ c.from_residual.result c.from_residual.ensures.1
+
+pub returns-in_err-store-clause-tells : goal.returns-in_err-store-clause-tells
+returns-in_err-store-clause-tells g c = stops_silent g.E.Sink.meaning c.args.err.now _ c.from_residual-in_err-store.result c.from_residual-in_err-store.ensures.1
+
+pub returns-in_err-say-clause-tells : goal.returns-in_err-say-clause-tells
+returns-in_err-say-clause-tells g c = stops_silent g.E.Sink.meaning c.args.err.now _ c.from_residual-in_err-say.result c.from_residual-in_err-say.ensures.1
+
+pub returns-then-has_trees-clause-tells : goal.returns-then-has_trees-clause-tells
+returns-then-has_trees-clause-tells g c =
+    let is = c.if-has_trees.true in
+    let has = c.has_trees.ensures in
+    let none = none_found _ _ _ _ (has.faults is) (has.memory is) c.build-end.ensures.causes in
+    tells_behind g.E.Sink.meaning _ _ _ c.build-end.result c.tell_trees.result c.build-end.ensures.tells (has.faults is) (has.memory is) (ap (λ (o : Outside). o.err) none) c.tell_trees.ensures.tells
+
+pub returns-clause-tells : goal.returns-clause-tells
+returns-clause-tells g c = tells_closed g.E.Sink.meaning _ _ c.build-end.result c.tell_end-written.result c.closed.result c.build-end.ensures.tells c.closed.ensures.whole c.closed.ensures.list

@@ -1,3 +1,6 @@
+use Rattle.std.proofs.Common.{refl}
+use Rattle.scons_top.proofs.Serving.{fault_memory, fault_prints}
+use Rattle.scons_top.proofs.Telling.{stops_silent, tells_ended}
 use Rattle.scons_top.proofs.Stepping.{ends_memory, reports_at, unprinted_at, one_found}
 use Rattle.scons_top.proofs.Causing.{memory_late, world_found}
 use Rattle.scons_top.proofs.Reporting.{listed, list_wanting}
@@ -32,3 +35,25 @@ returns-clause-ends g c = λ h.
     let at = c.args.step in
     let first = one_found at c.args.fault _ _ c.empty-faults.ensures c.in_ok-push.ensures.ok h in
     reports_at at c.closed.result c.closed.ensures.at (c.closed.ensures.ends (unprinted_at at c.print-printed.result _ _ c.add_unprinted-lost.result c.add_unprinted-lost.ensures first))
+
+pub returns-in_err-text-clause-tells : goal.returns-in_err-text-clause-tells
+returns-in_err-text-clause-tells g c = stops_silent g.E.Sink.meaning c.args.err.now _ c.from_residual.result c.from_residual.ensures.1
+
+pub returns-in_err-push-clause-tells : goal.returns-in_err-push-clause-tells
+returns-in_err-push-clause-tells g c = stops_silent g.E.Sink.meaning c.args.err.now _ c.from_residual-in_err-push.result c.from_residual-in_err-push.ensures.1
+
+pub returns-clause-tells : goal.returns-clause-tells
+returns-clause-tells g c =
+    tells_ended g.E.Sink.meaning _ _ c.args.fault _ _ _ _ _ c.print-printed.result c.add_unprinted-lost.result _ c.closed.result c.empty-faults.ensures c.in_ok-push.ensures.ok
+    c.in_ok-text.ensures c.as_str.ensures.value c.print-printed.ensures.ok c.print-printed.ensures.err c.add_unprinted-lost.ensures c.closed.ensures.whole c.closed.ensures.list
+
+pub returns-in_err-text-clause-prints : goal.returns-in_err-text-clause-prints
+returns-in_err-text-clause-prints g c = fault_memory g.O.Sink.meaning c.args.words.now c.args.fault c.args.out.now c.from_residual.result c.from_residual.ensures.1
+
+pub returns-in_err-push-clause-prints : goal.returns-in_err-push-clause-prints
+returns-in_err-push-clause-prints g c = fault_memory g.O.Sink.meaning c.args.words.now c.args.fault c.args.out.now c.from_residual-in_err-push.result c.from_residual-in_err-push.ensures.1
+
+pub returns-clause-prints : goal.returns-clause-prints
+returns-clause-prints g c =
+    fault_prints g.O.Sink.meaning c.args.words.now c.args.fault _ _ _ _ c.print-printed.result c.add_unprinted-lost.result _ _ c.tell_faulty-written.result c.closed.result
+    c.empty-faults.ensures c.in_ok-push.ensures.ok c.as_slice.ensures c.add_unprinted-lost.ensures c.tell_faulty-written.ensures.prints c.closed.ensures.whole c.closed.ensures.list

@@ -1,3 +1,7 @@
+use Rattle.report_texts.specs.Texts.{building_text}
+use Rattle.scons_top.proofs.Serving.{serve_faulty, serve_listed, serve_unlisted, serve_wanting}
+use Rattle.scons_top.proofs.Telling.{early_none, none_told, stops_silent}
+use Rattle.scons_top.proofs.Serving.{serve_unopened}
 use Rattle.scons_top.proofs.Opening.{stops_unopened, store_unopened, listing_ends}
 use Rattle.scons_top.specs.declared.step.Step.TheVariants as step
 use Rattle.scons_top.proofs.Stepping.{ends_memory, ends_store, ends_exit, store_at, sink_at, listing_at}
@@ -86,3 +90,47 @@ returns-in-Err-Memory-clause-bytes g c = λ t. record { stops = tt; readable = �
 
 pub returns-clause-bytes : goal.returns-clause-bytes
 returns-clause-bytes g c = λ t. listing_ends _ c.end_with.result (c.in_ok-view.ensures.readable (c.list_of.ensures.watches.looks.told.told t)) (returns-clause-ends g c)
+
+pub returns-in_err-nodes-clause-tells : goal.returns-in_err-nodes-clause-tells
+returns-in_err-nodes-clause-tells g c = stops_silent g.E.Sink.meaning c.args.err.now _ c.from_residual.result c.from_residual.ensures.1
+
+pub returns-in_err-view-clause-tells : goal.returns-in_err-view-clause-tells
+returns-in_err-view-clause-tells g c = stops_silent g.E.Sink.meaning c.args.err.now _ c.from_residual-in_err-view.result c.from_residual-in_err-view.ensures.1
+
+pub returns-in_err-say-clause-tells : goal.returns-in_err-say-clause-tells
+returns-in_err-say-clause-tells g c = stops_silent g.E.Sink.meaning c.args.err.now _ c.from_residual-in_err-say.result c.from_residual-in_err-say.ensures.1
+
+pub returns-in_err-nodes-clause-prints : goal.returns-in_err-nodes-clause-prints
+returns-in_err-nodes-clause-prints g c =
+    serve_unopened g.W.Disk.meaning g.O.Sink.meaning c.args.words.now c.args.graph.now c.args.requests.now c.args.world.now c.args.world.now c.args.out.now c.from_residual.result
+
+pub returns-in_err-view-clause-prints : goal.returns-in_err-view-clause-prints
+returns-in_err-view-clause-prints g c =
+    serve_unopened g.W.Disk.meaning g.O.Sink.meaning c.args.words.now c.args.graph.now c.args.requests.now c.args.world.now c.args.world.now c.args.out.now c.from_residual-in_err-view.result
+
+pub returns-in-Ok-clause-tells : goal.returns-in-Ok-clause-tells
+returns-in-Ok-clause-tells g c = none_told g.E.Sink.meaning c.args.err.now c.tell_rules.result c.tell_rules.ensures.faults
+
+pub returns-in-Ok-clause-faults : goal.returns-in-Ok-clause-faults
+returns-in-Ok-clause-faults g c = early_none c.tell_rules.result c.tell_rules.ensures.faults
+
+pub returns-in_err-say-clause-prints : goal.returns-in_err-say-clause-prints
+returns-in_err-say-clause-prints g c =
+    let r = c.from_residual-in_err-say in
+    let h = c.in_err-say.ensures.prints building_text c.building_text.ensures in
+    serve_unlisted g.W.Disk.meaning g.O.Sink.meaning c.args.words.now c.args.graph.now c.args.requests.now c.args.world.now c.args.world.now c.args.out.now c.args.out.now _ r.result _ r.ensures.1 h.0 h.1
+
+pub returns-in-Ok-clause-prints : goal.returns-in-Ok-clause-prints
+returns-in-Ok-clause-prints g c =
+    serve_listed g.W.Disk.meaning g.O.Sink.meaning c.args.words.now c.args.graph.now c.args.requests.now c.args.world.now c.args.world.now c.args.out.now c.say.new.out _ c.list_of.new.graph _ c.tell_rules.result
+    c.tell_rules.ensures.faults (c.in_ok-say.ensures.prints building_text c.building_text.ensures) c.tell_rules.ensures.prints
+
+pub returns-clause-prints : goal.returns-clause-prints
+returns-clause-prints g c =
+    serve_faulty g.W.Disk.meaning g.O.Sink.meaning c.args.words.now c.args.graph.now c.args.requests.now c.args.world.now c.args.world.now c.args.out.now c.say.new.out _ _ c.end_with.result
+    (c.in_ok-say.ensures.prints building_text c.building_text.ensures) c.end_with.ensures.prints
+
+pub returns-in-Err-Memory-clause-prints : goal.returns-in-Err-Memory-clause-prints
+returns-in-Err-Memory-clause-prints g c =
+    serve_wanting g.W.Disk.meaning g.O.Sink.meaning c.args.words.now c.args.graph.now c.args.requests.now c.args.world.now c.args.world.now c.args.out.now c.args.out.now c.say.new.out
+    (c.in_ok-say.ensures.prints building_text c.building_text.ensures)

@@ -1,3 +1,5 @@
+use Rattle.std.specs.Prelude.{string_bytes}
+use Rattle.scons_top.proofs.Telling.{build_lines, tells_wanting, top_lines}
 use Rattle.std.proofs.lemmas.Bool.{false≢true}
 use Rattle.scons_top.proofs.Stepping.{stop_or_fault, told_fault, stop_or_build, told_build, stop_or_none}
 use Rattle.std.proofs.Common.{◌∙◌, sym, subst, refl}
@@ -38,3 +40,12 @@ returns-in-Memory-clause-alone g c = stop_or_none _ _ (c.report.ensures.faults �
 
 pub returns-in-Memory-clause-told : goal.returns-in-Memory-clause-told
 returns-in-Memory-clause-told g c = λ ne. absurd (false≢true (sym (c.report.ensures.memory ne)))
+
+pub returns-in-Fault-clause-tells : goal.returns-in-Fault-clause-tells
+returns-in-Fault-clause-tells g c = c.kept.ensures.tells (top_lines string_bytes _ _ c.top_text-text.ensures)
+
+pub returns-in-Build-clause-tells : goal.returns-in-Build-clause-tells
+returns-in-Build-clause-tells g c = c.kept-in-Build.ensures.tells (build_lines string_bytes c.in-Build.fault c.from.result _ c.from.ensures.1 c.fault_text-text.ensures)
+
+pub returns-in-Memory-clause-tells : goal.returns-in-Memory-clause-tells
+returns-in-Memory-clause-tells g c = tells_wanting g.E.Sink.meaning _ _ c.report.result c.report.ensures.memory (λ t. t)

@@ -1,5 +1,8 @@
+use Rattle.std.specs.Prelude.{string_bytes}
+use Rattle.scons_top.proofs.Telling.{line_here, shown_printed, shown_refused}
 use Rattle.scons_top.proofs.Stepping.{or_same, or_more, has_pushed, has_before}
-use Rattle.std.proofs.Common.{◌∙◌, ◌++◌, ◌∷◌, [], ap, List, inl, inr, refl}
+use Rattle.std.proofs.Common.{◌∙◌, ◌++◌, ◌∷◌, [], ap, List, inl, inr, refl, subst, sym}
+use Rattle.scons_top.specs.Told.{IsLine}
 use Rattle.scons_top.specs.Faults.{IsEarly}
 use Rattle.scons_top.specs.declared.report.Top.{Top}
 use Rattle.scons_top.specs.declared.report.Top.TheVariants as top
@@ -50,3 +53,13 @@ returns-clause-alone g c = λ all.
 
 pub returns-clause-holds : goal.returns-clause-holds
 returns-clause-holds g c = has_before _ c.args.fault top.OutFault _ c.in_ok-push-in-Err.ensures.ok (has_pushed _ c.args.fault _ c.in_ok-push.ensures.ok)
+
+pub returns-in-Ok-clause-shown : goal.returns-in-Ok-clause-shown
+returns-in-Ok-clause-shown g c = λ none kind tells.
+    let line = subst (IsLine c.args.fault) (sym c.as_str.ensures.value) (line_here string_bytes c.args.fault c.args.text c.in_ok-text.text c.in_ok-text.was kind) in
+    shown_printed g.E.Sink.meaning _ _ c.args.fault _ line _ _ none c.in_ok-push.ensures.ok c.in-Ok.ensures.ok tells
+
+pub returns-clause-shown : goal.returns-clause-shown
+returns-clause-shown g c = λ none kind tells.
+    let line = subst (IsLine c.args.fault) (sym c.as_str.ensures.value) (line_here string_bytes c.args.fault c.args.text c.in_ok-text.text c.in_ok-text.was kind) in
+    shown_refused g.E.Sink.meaning _ _ c.args.fault _ line _ _ none (c.in_ok-push-in-Err.ensures.ok ∙ ap (λ (fs : List Top). fs ++ top.OutFault ∷ []) c.in_ok-push.ensures.ok) c.in-Err.ensures.err tells

@@ -1,3 +1,4 @@
+use Rattle.scons_top.proofs.Telling.{tells_shown, tells_wanting}
 use Rattle.std.proofs.lemmas.Bool.{false≢true}
 use Rattle.scons_top.specs.declared.report.Top.{Top}
 use Rattle.scons_top.proofs.Stepping.{or_same, or_none}
@@ -22,3 +23,10 @@ returns-in-Ok-clause-told g c = λ ne. subst (λ (faults : List Top). Contains f
 
 pub returns-in-Err-clause-told : goal.returns-in-Err-clause-told
 returns-in-Err-clause-told g c = λ ne. absurd (false≢true (sym (c.report-in-Err.ensures.memory ne)))
+
+pub returns-in-Ok-clause-tells : goal.returns-in-Ok-clause-tells
+returns-in-Ok-clause-tells g c = λ kind.
+    tells_shown g.E.Sink.meaning _ _ c.report.result _ c.report.ensures.faults c.keep.ensures.told (c.in-Ok.ensures.shown c.empty-faults.ensures kind)
+
+pub returns-in-Err-clause-tells : goal.returns-in-Err-clause-tells
+returns-in-Err-clause-tells g c = λ kind. tells_wanting g.E.Sink.meaning _ _ c.report-in-Err.result c.report-in-Err.ensures.memory c.keep.ensures.told

@@ -1,6 +1,6 @@
 use Rattle.scons_top.proofs.Opening.{bytes_exit, bytes_list}
-use Rattle.scons_top.specs.declared.step.Step.TheVariants as step
-use Rattle.scons_top.proofs.Stepping.{stops_exit, stops_list, look_at}
+use Rattle.scons_top.proofs.Asking.{asked_exit, asked_list, look_at}
+use Rattle.scons_top.specs.Asked.{NamesNone}
 use Rattle.scons_top.proofs.Watching.{watches_on}
 use Rattle.scons_top.proofs.Causing.{world_back, world_exit, look_exit}
 use Rattle.scons_top.proofs.lookups.is_left_over.Goals as goal
@@ -20,10 +20,10 @@ pub returns-clause-watches : goal.returns-clause-watches
 returns-clause-watches g c = watches_on _ _ _ _ c.read_records.ensures.watches c.has_leftover.ensures.watches
 
 pub returns-in_err-read_records-clause-stops : goal.returns-in_err-read_records-clause-stops
-returns-in_err-read_records-clause-stops g c = stops_exit step.Requests c.from_residual.result _ c.from_residual.ensures.1 c.in_err-read_records.ensures.stops
+returns-in_err-read_records-clause-stops g c = asked_exit NamesNone c.from_residual.result _ c.from_residual.ensures.1 c.in_err-read_records.ensures.stops
 
 pub returns-in_err-has_leftover-clause-stops : goal.returns-in_err-has_leftover-clause-stops
-returns-in_err-has_leftover-clause-stops g c = stops_list step.Requests c.from_residual-in_err-has_leftover.result _ c.from_residual-in_err-has_leftover.ensures.1 (look_at _ _ _ c.in_err-has_leftover.ensures.cause)
+returns-in_err-has_leftover-clause-stops g c = asked_list NamesNone c.from_residual-in_err-has_leftover.result _ c.from_residual-in_err-has_leftover.ensures.1 (look_at NamesNone _ _ _ c.in_err-has_leftover.ensures.cause)
 
 pub returns-in_err-read_records-clause-bytes : goal.returns-in_err-read_records-clause-bytes
 returns-in_err-read_records-clause-bytes g c = λ t. bytes_exit _ c.from_residual.result _ c.from_residual.ensures.1 (c.in_err-read_records.ensures.bytes t)

@@ -1,6 +1,6 @@
 use Rattle.scons_top.proofs.Opening.{bytes_memory, bytes_exit}
-use Rattle.scons_top.specs.declared.step.Step.TheVariants as step
-use Rattle.scons_top.proofs.Stepping.{stops_memory, stops_exit}
+use Rattle.scons_top.proofs.Asking.{asked_exit, asked_memory, stops_weaker, none_as}
+use Rattle.scons_top.specs.Asked.{IsNoPath, NamesNone}
 use Rattle.std.proofs.Common.{refl}
 use Rattle.scons_top.proofs.Causing.{inside, world_exit, world_memory}
 use Rattle.scons_top.proofs.members.check_member.Goals as goal
@@ -15,10 +15,10 @@ pub returns-clause-step : goal.returns-clause-step
 returns-clause-step g c = inside _ _ c.missing.result c.in_ok-is_there.ensures.step c.missing.ensures.inside
 
 pub returns-in_err-path-clause-stops : goal.returns-in_err-path-clause-stops
-returns-in_err-path-clause-stops g c = stops_memory step.Requests c.from_residual.result c.from_residual.ensures.1
+returns-in_err-path-clause-stops g c = asked_memory (IsNoPath c.args.word.now) c.from_residual.result c.from_residual.ensures.1
 
 pub returns-in_err-is_there-clause-stops : goal.returns-in_err-is_there-clause-stops
-returns-in_err-is_there-clause-stops g c = stops_exit step.Requests c.from_residual-in_err-is_there.result _ c.from_residual-in_err-is_there.ensures.1 c.in_err-is_there.ensures.stops
+returns-in_err-is_there-clause-stops g c = asked_exit (IsNoPath c.args.word.now) c.from_residual-in_err-is_there.result _ c.from_residual-in_err-is_there.ensures.1 (stops_weaker NamesNone (IsNoPath c.args.word.now) _ (none_as (IsNoPath c.args.word.now)) c.in_err-is_there.ensures.stops)
 
 pub returns-in_err-path-clause-bytes : goal.returns-in_err-path-clause-bytes
 returns-in_err-path-clause-bytes g c = λ t. bytes_memory _ c.from_residual.result c.from_residual.ensures.1

@@ -1,6 +1,6 @@
 use Rattle.scons_top.proofs.Opening.{bytes_after, bytes_exit}
-use Rattle.scons_top.specs.declared.step.Step.TheVariants as step
-use Rattle.scons_top.proofs.Stepping.{stops_exit}
+use Rattle.scons_top.proofs.Asking.{asked_exit}
+use Rattle.scons_top.specs.Asked.{IsNoPath}
 use Rattle.std.proofs.Common.{◌∙◌}
 use Rattle.scons_top.proofs.Watching.{watches_on}
 use Rattle.scons_top.proofs.Causing.{world_back, world_exit}
@@ -21,7 +21,7 @@ returns-in_err-check_member-clause-step g c =
     world_back _ _ _ c.from_residual.result c.loop-member.invariant.same (world_exit _ _ c.from_residual.result _ c.from_residual.ensures.1 c.in_err-check_member.ensures.step)
 
 pub returns-in_err-check_member-clause-stops : goal.returns-in_err-check_member-clause-stops
-returns-in_err-check_member-clause-stops g c = stops_exit step.Requests c.from_residual.result _ c.from_residual.ensures.1 c.in_err-check_member.ensures.stops
+returns-in_err-check_member-clause-stops g c = asked_exit (IsNoPath c.args.word.now) c.from_residual.result _ c.from_residual.ensures.1 c.in_err-check_member.ensures.stops
 
 pub returns-in_err-check_member-clause-bytes : goal.returns-in_err-check_member-clause-bytes
 returns-in_err-check_member-clause-bytes g c =

@@ -1,6 +1,6 @@
 use Rattle.scons_top.proofs.Opening.{bytes_list, bytes_after, bytes_exit}
-use Rattle.scons_top.specs.declared.step.Step.TheVariants as step
-use Rattle.scons_top.proofs.Stepping.{stops_list, look_at, stops_exit}
+use Rattle.scons_top.proofs.Asking.{asked_exit, asked_list, look_at}
+use Rattle.scons_top.specs.Asked.{NamesNone}
 use Rattle.std.proofs.Common.{◌∙◌}
 use Rattle.scons_top.proofs.Watching.{watches_on}
 use Rattle.scons_top.proofs.Causing.{world_back, world_exit, look_exit}
@@ -24,10 +24,10 @@ pub returns-clause-step : goal.returns-clause-step
 returns-clause-step g c = c.in_ok-is_left_over.ensures.step ∙ c.in_ok-stands.ensures.cause
 
 pub returns-in_err-stands-clause-stops : goal.returns-in_err-stands-clause-stops
-returns-in_err-stands-clause-stops g c = stops_list step.Requests c.from_residual.result _ c.from_residual.ensures.1 (look_at _ _ _ c.in_err-stands.ensures.cause)
+returns-in_err-stands-clause-stops g c = asked_list NamesNone c.from_residual.result _ c.from_residual.ensures.1 (look_at NamesNone _ _ _ c.in_err-stands.ensures.cause)
 
 pub returns-in_err-is_left_over-clause-stops : goal.returns-in_err-is_left_over-clause-stops
-returns-in_err-is_left_over-clause-stops g c = stops_exit step.Requests c.from_residual-in_err-is_left_over.result _ c.from_residual-in_err-is_left_over.ensures.1 c.in_err-is_left_over.ensures.stops
+returns-in_err-is_left_over-clause-stops g c = asked_exit NamesNone c.from_residual-in_err-is_left_over.result _ c.from_residual-in_err-is_left_over.ensures.1 c.in_err-is_left_over.ensures.stops
 
 pub returns-in_err-stands-clause-bytes : goal.returns-in_err-stands-clause-bytes
 returns-in_err-stands-clause-bytes g c = λ t. bytes_list _ c.from_residual.result _ c.from_residual.ensures.1

@@ -1,6 +1,7 @@
 use Rattle.scons_top.proofs.Opening.{bytes_list, bytes_after, bytes_memory}
-use Rattle.scons_top.specs.declared.step.Step.TheVariants as step
-use Rattle.scons_top.proofs.Stepping.{stops_list, look_at, stops_memory}
+use Rattle.scons_top.proofs.Asking.{asked_list, asked_memory, look_at, ends_weaker, none_as}
+use Rattle.scons_top.specs.Asked.{IsWord, IsWordIn, NamesNone}
+use Rattle.std.proofs.Common.{refl}
 use Rattle.scons_top.proofs.Watching.{watches_on}
 use Rattle.scons_top.proofs.Causing.{look_exit, inner_step, world_back, world_memory}
 use Rattle.scons_top.proofs.requests.file_request.Goals as goal
@@ -24,10 +25,10 @@ pub returns-in-Absent-clause-step : goal.returns-in-Absent-clause-step
 returns-in-Absent-clause-step g c = inner_step _ _ c.absent_request.result c.in_ok-kind_of.ensures.cause c.absent_request.ensures.step
 
 pub returns-in_err-kind_of-clause-stops : goal.returns-in_err-kind_of-clause-stops
-returns-in_err-kind_of-clause-stops g c = stops_list step.Requests c.from_residual.result _ c.from_residual.ensures.1 (look_at _ _ _ c.in_err-kind_of.ensures.cause)
+returns-in_err-kind_of-clause-stops g c = asked_list _ c.from_residual.result _ c.from_residual.ensures.1 (look_at _ _ _ _ c.in_err-kind_of.ensures.cause)
 
 pub returns-in_err-targets_below-in-Dir-clause-stops : goal.returns-in_err-targets_below-in-Dir-clause-stops
-returns-in_err-targets_below-in-Dir-clause-stops g c = stops_memory step.Requests c.from_residual-in_err-targets_below-in-Dir.result c.from_residual-in_err-targets_below-in-Dir.ensures.1
+returns-in_err-targets_below-in-Dir-clause-stops g c = asked_memory _ c.from_residual-in_err-targets_below-in-Dir.result c.from_residual-in_err-targets_below-in-Dir.ensures.1
 
 pub returns-in_err-kind_of-clause-bytes : goal.returns-in_err-kind_of-clause-bytes
 returns-in_err-kind_of-clause-bytes g c = λ t. bytes_list _ c.from_residual.result _ c.from_residual.ensures.1
@@ -45,3 +46,14 @@ returns-in_ok-targets_below-in-Dir-clause-bytes g c = λ t. c.made.ensures.bytes
 
 pub returns-in-Absent-clause-bytes : goal.returns-in-Absent-clause-bytes
 returns-in-Absent-clause-bytes g c = λ t. c.absent_request.ensures.bytes _
+
+pub returns-in_ok-targets_below-in-Dir-clause-stops : goal.returns-in_ok-targets_below-in-Dir-clause-stops
+returns-in_ok-targets_below-in-Dir-clause-stops g c =
+    let is_word = IsWordIn c.args.graph.now c.args.graph.now c.args.word.now in
+    ends_weaker NamesNone is_word c.made.result (none_as is_word) c.made.ensures.stops
+
+pub returns-in-Absent-clause-stops : goal.returns-in-Absent-clause-stops
+returns-in-Absent-clause-stops g c =
+    let graph = c.args.graph.now in
+    let word = c.args.word.now in
+    ends_weaker (IsWord word) (IsWordIn graph graph word) c.absent_request.result (λ other is. (is, refl)) c.absent_request.ensures.stops

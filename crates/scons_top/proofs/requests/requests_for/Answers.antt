@@ -1,8 +1,8 @@
 use Rattle.scons_top.proofs.Opening.{bytes_after, bytes_exit, bytes_memory}
-use Rattle.scons_top.specs.declared.step.Step.TheVariants as step
-use Rattle.scons_top.proofs.Stepping.{stops_exit, stops_memory}
+use Rattle.scons_top.proofs.Asking.{asked_exit, asked_memory, stops_weaker, unknown_of}
+use Rattle.scons_top.specs.Asked.{IsUnknownAs, IsUnknownOf}
 use Rattle.std.proofs.Common.{◌∙◌}
-use Rattle.scons_top.proofs.Requesting.{asks_pushed}
+use Rattle.scons_top.proofs.Requesting.{asks_pushed, words_pushed}
 use Rattle.scons_top.proofs.Watching.{watches_on}
 use Rattle.scons_top.proofs.Causing.{world_back, world_exit, world_memory}
 use Rattle.scons_top.proofs.requests.requests_for.Goals as goal
@@ -20,6 +20,8 @@ loop-word-preserved g c = record {
   knows = c.request_of.ensures.knows c.loop-word.invariant.knows;
   nodes = asks_pushed c.loop-word.graph c.request_of.new.graph _ _ _ c.request_of.ensures.more c.in_ok-push.ensures.items c.loop-word.invariant.nodes
       (c.in_ok-request_of.ensures.nodes c.loop-word.invariant.knows);
+  words = words_pushed c.loop-word.requests.items _ _ c.args.asked.now c.loop-word.word-index c.word-item.result c.loop-word-test.true c.word-item.is
+      c.in_ok-push.ensures.items c.in_ok-request_of.ensures.word c.loop-word.invariant.words;
 }
 
 pub returns-in_err-request_of-clause-step : goal.returns-in_err-request_of-clause-step
@@ -29,10 +31,17 @@ pub returns-in_err-push-clause-step : goal.returns-in_err-push-clause-step
 returns-in_err-push-clause-step g c = let r = c.from_residual-in_err-push in world_memory _ _ r.result r.ensures.1 (c.in_ok-request_of.ensures.step ∙ c.loop-word.invariant.same)
 
 pub returns-in_err-request_of-clause-stops : goal.returns-in_err-request_of-clause-stops
-returns-in_err-request_of-clause-stops g c = stops_exit step.Requests c.from_residual.result _ c.from_residual.ensures.1 c.in_err-request_of.ensures.stops
+returns-in_err-request_of-clause-stops g c =
+    let graph = c.request_of.new.graph in
+    let asked = c.args.asked.now in
+    let item = c.word-item in
+    let is_one = IsUnknownOf graph asked in
+    let one = unknown_of graph asked c.loop-word.word-index item.result item.result in
+    asked_exit is_one c.from_residual.result _ c.from_residual.ensures.1
+    (stops_weaker (IsUnknownAs graph item.result) is_one _ (λ other is. one other c.loop-word-test.true item.is is) c.in_err-request_of.ensures.stops)
 
 pub returns-in_err-push-clause-stops : goal.returns-in_err-push-clause-stops
-returns-in_err-push-clause-stops g c = stops_memory step.Requests c.from_residual-in_err-push.result c.from_residual-in_err-push.ensures.1
+returns-in_err-push-clause-stops g c = asked_memory _ c.from_residual-in_err-push.result c.from_residual-in_err-push.ensures.1
 
 pub returns-in_err-request_of-clause-bytes : goal.returns-in_err-request_of-clause-bytes
 returns-in_err-request_of-clause-bytes g c =

@@ -1,7 +1,7 @@
 use Rattle.scons_top.proofs.Opening.{bytes_memory}
-use Rattle.scons_top.specs.declared.step.Step.TheVariants as step
-use Rattle.scons_top.proofs.Stepping.{stops_memory}
-use Rattle.std.proofs.Common.{refl}
+use Rattle.scons_top.proofs.Asking.{asked_memory}
+use Rattle.std.proofs.Common.{rules, ◌≡◌, ℕ, List, IfErr, refl, subst}
+use Rattle.scons_top.specs.Asked.{asked_by, IsUnknownOf, StopsFor}
 use Rattle.scons_top.proofs.Causing.{world_memory}
 use Rattle.scons_top.proofs.requests.requests_of.Goals as goal
 
@@ -12,13 +12,19 @@ pub returns-in_err-asked-in_default-clause-step : goal.returns-in_err-asked-in_d
 returns-in_err-asked-in_default-clause-step g c = let r = c.from_residual-in_err-asked-in_default in world_memory _ _ r.result r.ensures.1 refl
 
 pub returns-in_err-asked-in-empty-clause-stops : goal.returns-in_err-asked-in-empty-clause-stops
-returns-in_err-asked-in-empty-clause-stops g c = stops_memory step.Requests c.from_residual.result c.from_residual.ensures.1
+returns-in_err-asked-in-empty-clause-stops g c = asked_memory _ c.from_residual.result c.from_residual.ensures.1
 
 pub returns-in_err-asked-in_default-clause-stops : goal.returns-in_err-asked-in_default-clause-stops
-returns-in_err-asked-in_default-clause-stops g c = stops_memory step.Requests c.from_residual-in_err-asked-in_default.result c.from_residual-in_err-asked-in_default.ensures.1
+returns-in_err-asked-in_default-clause-stops g c = asked_memory _ c.from_residual-in_err-asked-in_default.result c.from_residual-in_err-asked-in_default.ensures.1
 
 pub returns-in_err-asked-in-empty-clause-bytes : goal.returns-in_err-asked-in-empty-clause-bytes
 returns-in_err-asked-in-empty-clause-bytes g c = λ t. bytes_memory _ c.from_residual.result c.from_residual.ensures.1
 
 pub returns-in_err-asked-in_default-clause-bytes : goal.returns-in_err-asked-in_default-clause-bytes
 returns-in_err-asked-in_default-clause-bytes g c = λ t. bytes_memory _ c.from_residual-in_err-asked-in_default.result c.from_residual-in_err-asked-in_default.ensures.1
+
+pub returns-clause-stops : goal.returns-clause-stops
+returns-clause-stops g c =
+    let asked = asked_by c.args.graph.now c.args.words.now in
+    let same : c.as_slice-2.result.now ≡ asked = search rules in
+    subst (λ (words : List (List ℕ)). IfErr c.requests_for.result (StopsFor (IsUnknownOf c.requests_for.new.graph words))) same c.requests_for.ensures.stops

@@ -1,13 +1,17 @@
+use Rattle.scons_top.proofs.Serving.{run_asked, run_help, run_read, run_served}
+use Rattle.scons_top.proofs.Telling.{none_told, stops_silent}
 use Rattle.scons_top.proofs.Opening.{reading_ends, help_ends, run_after, stops_unopened}
 use Rattle.scons_top.proofs.Clearing.{not_reading, cleans_after}
 use Rattle.scons_top.specs.declared.step.Step.TheVariants as step
 use Rattle.scons_top.proofs.Watching.{watches_on}
 use Rattle.scons_top.proofs.Stepping.{reading_runs, serves_runs, leaves_reading, leaves_after, ends_exit}
+use Rattle.scons_top.proofs.Asking.{stops_asked, unknown_stop, unknown_else, reading_else, serves_else}
 use Rattle.scons_top.proofs.Stopping.{steps_looked, steps_on}
 use Rattle.world_api.proofs.Looking.{looks_joined}
 use Rattle.scons_top.proofs.Early.{any_stop, stop_after}
 use Rattle.std.proofs.Common.{◌∙◌, ap, inl, subst, sym}
 use Rattle.build_run.specs.Causes.{Outside}
+use Rattle.scons_top.specs.Asked.{words_asked}
 use Rattle.scons_top.specs.Requested.{AskForNodes}
 use Rattle.scons_top.proofs.Building.{builds_looked, no_help, stops}
 use Rattle.scons_top.proofs.Causing.{same_world, exit_report, world_stop, stop_back, report_back}
@@ -109,7 +113,7 @@ pub returns-then-words-clause-ends : goal.returns-then-words-clause-ends
 returns-then-words-clause-ends g c = c.help.ensures.ends
 
 pub returns-in_err-requests-clause-ends : goal.returns-in_err-requests-clause-ends
-returns-in_err-requests-clause-ends g c = let r = c.from_residual-in_err-requests in ends_exit step.Requests r.result _ r.ensures.1 c.in_err-requests.ensures.stops
+returns-in_err-requests-clause-ends g c = let r = c.from_residual-in_err-requests in ends_exit step.Requests r.result _ r.ensures.1 (stops_asked _ _ c.in_err-requests.ensures.stops)
 
 pub returns-clause-ends : goal.returns-clause-ends
 returns-clause-ends g c = c.serve.ensures.ends
@@ -145,3 +149,49 @@ pub returns-clause-bytes : goal.returns-clause-bytes
 returns-clause-bytes g c =
     run_after g.W.Disk.meaning _ c.args.world.now c.requests_of.new.world c.serve.new.world c.serve.result
     (looks_joined _ _ _ _ c.read.ensures.watches.looks c.requests_of.ensures.watches.looks) c.serve.ensures.passes.told.told c.serve.ensures.bytes
+
+pub returns-in_err-graph-clause-unknown : goal.returns-in_err-graph-clause-unknown
+returns-in_err-graph-clause-unknown g c =
+    unknown_else c.args.words.now c.read.new.at c.from_residual.result (λ word. reading_else _ word c.read.ensures.reading) (returns-in_err-graph-clause-ends g c)
+
+pub returns-then-words-clause-unknown : goal.returns-then-words-clause-unknown
+returns-then-words-clause-unknown g c = unknown_else c.args.words.now step.Help c.help.result (λ word h. h) c.help.ensures.ends
+
+pub returns-in_err-requests-clause-unknown : goal.returns-in_err-requests-clause-unknown
+returns-in_err-requests-clause-unknown g c =
+    let r = c.from_residual-in_err-requests in
+    unknown_stop c.args.words.now _ c.requests_of.new.graph r.result _ r.ensures.1 c.in_err-requests.ensures.stops
+
+pub returns-clause-unknown : goal.returns-clause-unknown
+returns-clause-unknown g c =
+    unknown_else c.args.words.now c.serve.new.at c.serve.result (λ word. serves_else c.args.words.now _ word c.serve.ensures.serves) c.serve.ensures.ends
+
+pub returns-in_err-graph-clause-prints : goal.returns-in_err-graph-clause-prints
+returns-in_err-graph-clause-prints g c =
+    run_read g.W.Disk.meaning g.O.Sink.meaning c.args.words.now c.read.new.at c.args.world.now _ _ _ c.from_residual.result _ c.read.ensures.reading c.from_residual.ensures.1 c.in_err-graph.ensures.prints
+
+pub returns-then-words-clause-prints : goal.returns-then-words-clause-prints
+returns-then-words-clause-prints g c =
+    run_help g.W.Disk.meaning g.O.Sink.meaning c.args.words.now c.in_ok-graph.graph c.args.world.now c.args.world.now _ _ _ c.help.result c.in_ok-graph.ensures.prints c.help.ensures.prints
+
+pub returns-in_err-requests-clause-prints : goal.returns-in_err-requests-clause-prints
+returns-in_err-requests-clause-prints g c =
+    run_asked g.W.Disk.meaning g.O.Sink.meaning c.args.words.now c.args.world.now c.args.world.now _ _ c.from_residual-in_err-requests.result c.in_ok-graph.ensures.prints
+
+pub returns-clause-prints : goal.returns-clause-prints
+returns-clause-prints g c =
+    let graph = c.requests_of.new.graph in
+    let requests = c.as_slice.result.now in
+    let asks = subst (AskForNodes graph) (sym c.as_slice.ensures.value) c.in_ok-requests.ensures.nodes in
+    run_served g.W.Disk.meaning g.O.Sink.meaning c.args.words.now _ graph requests c.args.world.now c.requests_of.new.world c.serve.new.world _ _ _ c.serve.result
+    (looks_joined _ _ _ _ c.read.ensures.watches.looks c.requests_of.ensures.watches.looks) c.serve.ensures.passes.told.told c.requires.idle
+    (ap words_asked c.as_slice.ensures.value ∙ c.in_ok-requests.ensures.words) asks c.in_ok-graph.ensures.prints c.serve.new.at c.serve.ensures.serves (c.serve.ensures.prints asks)
+
+pub returns-in_err-graph-clause-tells : goal.returns-in_err-graph-clause-tells
+returns-in_err-graph-clause-tells g c = stops_silent g.E.Sink.meaning c.args.err.now _ c.from_residual.result c.from_residual.ensures.1
+
+pub returns-in_err-requests-clause-tells : goal.returns-in_err-requests-clause-tells
+returns-in_err-requests-clause-tells g c = stops_silent g.E.Sink.meaning c.args.err.now _ c.from_residual-in_err-requests.result c.from_residual-in_err-requests.ensures.1
+
+pub returns-then-words-clause-tells : goal.returns-then-words-clause-tells
+returns-then-words-clause-tells g c = none_told g.E.Sink.meaning c.args.err.now c.help.result c.help.ensures.faults

@@ -1,5 +1,9 @@
+use Rattle.std.specs.Prelude.{Ok}
+use Rattle.scons_top.proofs.Serving.{cut_ended, run_at, run_ended}
+use Rattle.scons_top.proofs.Telling.{tells_stopped}
 use Rattle.scons_top.proofs.Opening.{report_bytes, stopped_bytes}
 use Rattle.scons_top.proofs.Clearing.{cleans_report, cleans_stop}
+use Rattle.scons_top.proofs.Asking.{none_told, told_alone}
 use Rattle.scons_top.proofs.Stepping.{comes_as, leaves_as, faults_as, alone_at, refuses, reports_refused, usage_told, usage_reported}
 use Rattle.std.proofs.Common.{inl, inr}
 use Rattle.scons_top.proofs.top.scons.Goals as goal
@@ -56,3 +60,27 @@ returns-in-Ok-clause-bytes g c = λ t. report_bytes _ _ c.in-Ok.report c.in-Ok.e
 
 pub returns-in-Err-clause-bytes : goal.returns-in-Err-clause-bytes
 returns-in-Err-clause-bytes g c = λ t. stopped_bytes _ _ _ c.ended.result c.ended.ensures.at c.ended.ensures.alone (c.in-Err.ensures.bytes t)
+
+pub returns-in-Ok-clause-unknown : goal.returns-in-Ok-clause-unknown
+returns-in-Ok-clause-unknown g c = λ said is word has. none_told _ word c.in-Ok.ensures.late has
+
+pub returns-in-Err-clause-unknown : goal.returns-in-Err-clause-unknown
+returns-in-Err-clause-unknown g c = λ said is word has. c.in-Err.ensures.unknown said is word (told_alone _ _ word c.ended.ensures.alone has)
+
+pub returns-in-Ok-clause-prints : goal.returns-in-Ok-clause-prints
+returns-in-Ok-clause-prints g c = λ said is.
+    run_at g.W.Disk.meaning g.O.Sink.meaning said _ _ c.args.world.now c.take_words.new.world c.args.out.now c.take_words.new.out (Ok c.in-Ok.report) c.in-Ok.ensures.ends.ends (c.in-Ok.ensures.prints said is)
+
+pub returns-in-Err-clause-prints : goal.returns-in-Err-clause-prints
+returns-in-Err-clause-prints g c = λ said is.
+    let m = g.W.Disk.meaning in
+    let p = g.O.Sink.meaning in
+    let old = c.args.world.now in
+    let new = c.take_words.new.world in
+    let out = c.args.out.now in
+    let after = c.take_words.new.out in
+    run_at m p said _ _ old new out after (Ok c.ended.result) c.ended.ensures.at
+    (run_ended m p said c.take_words.new.at old new out after c.in-Err.stop c.ended.result (cut_ended c.in-Err.stop c.ended.result c.ended.ensures.told) (c.in-Err.ensures.prints said is))
+
+pub returns-in-Err-clause-tells : goal.returns-in-Err-clause-tells
+returns-in-Err-clause-tells g c = tells_stopped g.E.Sink.meaning _ _ c.ended.new.err c.ended.result c.in-Err.ensures.tells c.ended.ensures.tells

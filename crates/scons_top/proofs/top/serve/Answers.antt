@@ -1,3 +1,4 @@
+use Rattle.scons_top.proofs.Telling.{none_told}
 use Rattle.scons_top.specs.Requested.{nodes_asked}
 use Rattle.scons_top.proofs.Opening.{cleaning_ends}
 use Rattle.scons_top.proofs.Clearing.{asked_or_stops, not_listing, not_building}
@@ -67,3 +68,12 @@ returns-then-words-2-clause-bytes g c = c.list_requests.ensures.bytes
 
 pub returns-clause-bytes : goal.returns-clause-bytes
 returns-clause-bytes g c = c.build_requests.ensures.bytes
+
+pub returns-then-words-clause-tells : goal.returns-then-words-clause-tells
+returns-then-words-clause-tells g c = none_told g.E.Sink.meaning c.args.err.now c.clean_requests.result c.clean_requests.ensures.faults
+
+pub returns-then-words-clause-prints : goal.returns-then-words-clause-prints
+returns-then-words-clause-prints g c = λ asks. tt
+
+pub returns-then-words-2-clause-prints : goal.returns-then-words-2-clause-prints
+returns-then-words-2-clause-prints g c = λ asks. c.list_requests.ensures.prints

@@ -1,7 +1,11 @@
+use Rattle.scons_top.specs.Printed.{RunPrints}
+use Rattle.scons_top.proofs.Serving.{run_load, run_words}
+use Rattle.scons_top.proofs.Telling.{none_told, stops_silent}
 use Rattle.scons_top.proofs.Opening.{words_end, load_ends}
 use Rattle.scons_top.specs.Cleaned.{RunCleans}
 use Rattle.scons_top.specs.declared.step.Step.TheVariants as step
 use Rattle.scons_top.proofs.Stepping.{words_at, ends_exit, refused_words, not_refused, usage_words, usage_load, usage_run, load_comes, run_comes, none_loads, not_words, past_load, past_run}
+use Rattle.scons_top.proofs.Asking.{unknown_else, unknown_said}
 use Rattle.scons_top.proofs.Stopping.{steps_here}
 use Rattle.std.proofs.Common.{inl, subst}
 use Rattle.world_api.proofs.Looking.{looks_same}
@@ -112,3 +116,36 @@ returns-in-Some-clause-bytes g c = λ t. load_ends _ c.load.result c.load.ensure
 
 pub returns-clause-bytes : goal.returns-clause-bytes
 returns-clause-bytes g c = c.run.ensures.bytes
+
+pub returns-in_err-words-clause-unknown : goal.returns-in_err-words-clause-unknown
+returns-in_err-words-clause-unknown g c = λ said is. unknown_else said step.Words c.from_residual.result (λ word h. h) (returns-in_err-words-clause-ends g c)
+
+pub returns-in-Some-clause-unknown : goal.returns-in-Some-clause-unknown
+returns-in-Some-clause-unknown g c = λ said is. unknown_else said step.Load c.load.result (λ word h. h) c.load.ensures.ends
+
+pub returns-clause-unknown : goal.returns-clause-unknown
+returns-clause-unknown g c = λ said is.
+    unknown_said c.in_ok-words.words said c.run.result (words_said (read c.args.words.now) c.in_ok-words.words said c.in_ok-words.ensures.ok is) c.run.ensures.unknown
+
+pub returns-in_err-words-clause-prints : goal.returns-in_err-words-clause-prints
+returns-in_err-words-clause-prints g c = λ said is.
+    run_words g.W.Disk.meaning g.O.Sink.meaning said c.args.world.now c.args.world.now c.args.out.now c.from_residual.result
+
+pub returns-in-Some-clause-prints : goal.returns-in-Some-clause-prints
+returns-in-Some-clause-prints g c = λ said is.
+    let words = c.in_ok-words.words in
+    let world = c.args.world.now in
+    subst (λ (s : Words). RunPrints g.W.Disk.meaning g.O.Sink.meaning s step.Load world c.args.out.now world c.load.new.out c.load.result)
+    (words_said (read c.args.words.now) words said c.in_ok-words.ensures.ok is)
+    (run_load g.W.Disk.meaning g.O.Sink.meaning words c.in-Some.rules world world c.args.out.now c.load.new.out c.load.result c.in-Some.is c.load.ensures.prints)
+
+pub returns-clause-prints : goal.returns-clause-prints
+returns-clause-prints g c = λ said is.
+    subst (λ (s : Words). RunPrints g.W.Disk.meaning g.O.Sink.meaning s c.run.new.at c.args.world.now c.args.out.now c.run.new.world c.run.new.out c.run.result)
+    (words_said (read c.args.words.now) c.in_ok-words.words said c.in_ok-words.ensures.ok is) c.run.ensures.prints
+
+pub returns-in_err-words-clause-tells : goal.returns-in_err-words-clause-tells
+returns-in_err-words-clause-tells g c = stops_silent g.E.Sink.meaning c.args.err.now _ c.from_residual.result c.from_residual.ensures.1
+
+pub returns-in-Some-clause-tells : goal.returns-in-Some-clause-tells
+returns-in-Some-clause-tells g c = none_told g.E.Sink.meaning c.args.err.now c.load.result c.load.ensures.faults

@@ -9,4 +9,5 @@ invariant-loop-request g l =
       watches : Watches m l.fn.world l.world;
       counts : m.counts l.world ≡ m.counts l.fn.world;
       faults : g.O.Sink.meaning.faults l.out ≡ g.O.Sink.meaning.faults l.fn.out;
+      told : g.O.Sink.meaning.tells l.out → g.O.Sink.meaning.tells l.fn.out;
     }

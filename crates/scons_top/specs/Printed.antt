@@ -1,0 +1,210 @@
+-- What a run prints on standard output, by the step at which it ended.
+use Rattle.std.specs.Prelude.{◌≡◌, ◌≢◌, ◌⊎◌, ℕ, Bool, true, false, List, [], ◌∷◌, ◌++◌, Contains, IfSome, map, Result, Ok, Err}
+use Rattle.world_api.specs.Meaning.{Meaning}
+use Rattle.world_api.specs.Printed.{SinkMeaning}
+use Rattle.world_api.specs.Printing.{IsPrefixed, PrintsSome}
+use Rattle.scons_base.specs.declared.ids.RuleId.{RuleId}
+use Rattle.rule_graph.specs.Graphs.{RuleGraph}
+use Rattle.rule_graph.specs.declared.build_fault.BuildFault.{BuildFault}
+use Rattle.rule_graph.specs.declared.build_fault.BuildFault.TheVariants as fault
+use Rattle.rule_graph.specs.declared.wish.Wish.{Wish}
+use Rattle.sign_store.specs.Ends.{image_in}
+use Rattle.sign_store.specs.Tables.{Map}
+use Rattle.report_texts.specs.Texts.{reading_text, building_text, help_text, load_text}
+use Rattle.build_run.specs.Output.{HasRunPrinting}
+use Rattle.build_run.specs.declared.end.BuildEnd.{BuildEnd}
+use Rattle.scons_words.specs.declared.words.Words.{Words}
+use Rattle.scons_top.specs.declared.report.Report.{Report}
+use Rattle.scons_top.specs.declared.report.Top.{Top}
+use Rattle.scons_top.specs.declared.report.Top.TheVariants as top
+use Rattle.scons_top.specs.declared.requests.Request.{Request}
+use Rattle.scons_top.specs.declared.step.Step.{Step}
+use Rattle.scons_top.specs.declared.step.Step.TheVariants as step
+use Rattle.scons_top.specs.declared.stop.Stop.{Stop}
+use Rattle.scons_top.specs.declared.stop.Stop.TheVariants as stop
+use Rattle.scons_top.specs.Asked.{asked_of, words_asked}
+use Rattle.scons_top.specs.Builds.{wanted_by}
+use Rattle.scons_top.specs.Requested.{AskForNodes, nodes_asked}
+use Rattle.scons_top.specs.RunLines.{progress, opening_text, options_of, closing_text, ending_text, rules_text}
+use Rattle.scons_top.specs.Stops.{top_of}
+
+-- ---- texts on a sink
+
+-- this text stands printed, all of it
+pub record Printed {S : Type 0} (p : SinkMeaning S) (old new : S) (text : List ℕ) : Type 0 where
+  pub told : p.tells new → p.tells old
+  pub whole : p.tells new → p.text new ≡ p.text old ++ text
+
+-- a sink refused, or memory was wanting
+abbrev pub IsCutBy : Stop → Type 0
+IsCutBy (stop.Fault fault) = ⊥
+IsCutBy (stop.Build fault.OutFault) = Unit {0}
+IsCutBy (stop.Build other) = ⊥
+IsCutBy stop.Memory = Unit {0}
+
+-- so it does where a step on the sink alone went on, and a front of it where that stopped, which cuts it short
+abbrev pub PrintsUpTo : {S T : Type 0} → SinkMeaning S → List ℕ → S → S → Result T Stop → Type 0
+PrintsUpTo p text old new (Ok value) = Printed p old new text
+PrintsUpTo p text old new (Err s) = IsCutBy s × PrintsSome p old new text
+
+-- or where there was a reason not to print it to its end
+abbrev pub PrintsUnless : {S T : Type 0} → SinkMeaning S → Type 0 → List ℕ → S → S → Result T Stop → Type 0
+PrintsUnless p reason text old new (Ok value) = Printed p old new text ⊎ (reason × PrintsSome p old new text)
+PrintsUnless p reason text old new (Err s) = PrintsSome p old new text
+
+-- A text of this kind stands printed, all of it, or where the run was cut short maybe only a front of it.
+pub record IsPrintedOf {S : Type 0} (p : SinkMeaning S) (IsText : List ℕ → Type 0) (cut : Type 0) (old new : S) : Type 0 where
+  pub text : List ℕ
+  pub is : IsText text
+  pub printed : (p.text new ≡ p.text old ++ text) ⊎ (cut × IsPrefixed (p.text old) (p.text new) text)
+
+-- So it does on a sink that tells, where more is so.
+pub record PrintsSuch {S : Type 0} (p : SinkMeaning S) (where_so : Type 0) (IsText : List ℕ → Type 0) (cut : Type 0) (old new : S) : Type 0 where
+  pub told : p.tells new → p.tells old
+  pub such : where_so → p.tells new → IsPrintedOf p IsText cut old new
+
+-- ---- what cuts a run short
+
+-- unless memory was wanting a sink's refusal is reported
+abbrev pub IsCutShort : Report → Type 0
+IsCutShort report = report.status ≢ 3 → Contains report.faults top.OutFault
+
+abbrev pub IsCut : Result Report Stop → Type 0
+IsCut (Ok report) = IsCutShort report
+IsCut (Err s) = IsCutBy s
+
+-- the same of a build
+abbrev pub LosesOut : BuildEnd → Type 0
+LosesOut end = (end.memory ≡ true) ⊎ Contains end.faults fault.OutFault
+
+-- ---- the texts, step by step
+
+-- the faults of a run that are those of a build, and maybe that a line behind it wasn't printed
+abbrev pub AreFaultsOf : List BuildFault → List Top → Type 0
+AreFaultsOf found faults = (faults ≡ map top_of found) ⊎ (faults ≡ map top_of found ++ top.OutFault ∷ [])
+
+-- Behind the line that says so a build printed the texts of the rules that it started, and behind these stands the ending. The
+-- build began with the files and records that the run had found.
+pub record IsBuildText {W O : Type 0} (m : Meaning W) (p : SinkMeaning O) (said : Words) (g : RuleGraph) (requests : List Request) (old new : W)
+    (report : Report) (text : List ℕ) : Type 0 where
+  -- the world and standard output, as the build began and as it ended
+  pub begun : W
+  pub built : W
+  pub before : O
+  pub after : O
+  pub around : m.around begun ≡ m.around old
+  pub around_behind : m.around new ≡ m.around built
+  pub behind : Map
+  pub is_ended : Bool
+  pub builds : HasRunPrinting m p (wanted_by said g (nodes_asked requests)) (image_in (m.seen old)) (options_of said) begun before built after behind is_ended
+  -- the graph as it grew by copies, the rules that were started, and the faults
+  pub grown : RuleGraph
+  pub started : List RuleId
+  pub found : List BuildFault
+  pub faults : report.status ≢ 3 → AreFaultsOf found report.faults
+  pub whole : text ≡ progress said building_text ++ (builds.printed.text ++ builds.printed.rest) ++ ending_text said grown requests started found
+
+-- or the run was cut short before it built
+abbrev pub IsBuildingText : {W O : Type 0} → Meaning W → SinkMeaning O → Words → RuleGraph → List Request → W → W → Result Report Stop → List ℕ → Type 0
+IsBuildingText m p said g requests old new (Ok report) text =
+    IsBuildText m p said g requests old new report text ⊎ (IsCutShort report × (text ≡ progress said building_text))
+IsBuildingText m p said g requests old new (Err s) text = IsCutBy s × (text ≡ progress said building_text)
+
+-- Behind that line a list has the lines of its rules, and the ending: of each rule that is listed as if it were started.
+pub record IsListText (said : Words) (requests : List Request) (text : List ℕ) : Type 0 where
+  -- the graph as it grew by copies
+  pub grown : RuleGraph
+  pub rules : List RuleId
+  pub whole : text ≡ progress said building_text ++ (rules_text said grown rules ++ ending_text said grown requests rules [])
+
+-- or the last line alone, where a fault of the graph or of the files came
+pub record IsFaultyText (said : Words) (report : Report) (text : List ℕ) : Type 0 where
+  pub fault : BuildFault
+  pub told : report.status ≢ 3 → Contains report.faults (top_of fault)
+  pub whole : text ≡ progress said building_text ++ progress said (closing_text said (fault ∷ []))
+
+-- where a run is cut short, the list may not have been made yet
+abbrev pub IsListOrNone : Words → List Request → List ℕ → Type 0
+IsListOrNone said requests text = (text ≡ progress said building_text) ⊎ IsListText said requests text
+
+abbrev pub IsListingText : Words → List Request → Result Report Stop → List ℕ → Type 0
+IsListingText said requests (Ok report) text =
+    (report.faults ≡ []) × IsListText said requests text ⊎ IsFaultyText said report text ⊎ IsCutShort report × IsListOrNone said requests text
+IsListingText said requests (Err s) text = IsCutBy s × IsListOrNone said requests text
+
+-- what is printed once it is known what is requested
+abbrev pub IsServedText : {W O : Type 0} → Meaning W → SinkMeaning O → Words → Step → RuleGraph → List Request → W → W → Result Report Stop → List ℕ → Type 0
+IsServedText m p said step.Building g requests old new result text = IsBuildingText m p said g requests old new result text
+IsServedText m p said step.Store g requests old new result text = text ≡ []
+IsServedText m p said step.Listing g requests old new result text = IsListingText said requests result text
+IsServedText m p said other g requests old new result text = ⊥
+
+-- ---- behind the opening
+
+abbrev pub IsOpeningText : Words → List ℕ → Type 0
+IsOpeningText said text = (scripts : List ℕ) × (text ≡ opening_text said scripts)
+
+-- the opening and what stands behind it, by a graph and by what was requested of it
+pub record IsBehindText (said : Words) (IsRest : RuleGraph → List Request → List ℕ → Type 0) (text : List ℕ) : Type 0 where
+  pub opening : List ℕ
+  pub opens : IsOpeningText said opening
+  pub defaults : List Wish
+  pub graph : RuleGraph
+  pub requests : List Request
+  pub words : words_asked requests ≡ asked_of defaults said.requested
+  pub nodes : AskForNodes graph requests
+  pub rest : List ℕ
+  pub is : IsRest graph requests rest
+  pub whole : text ≡ opening ++ rest
+
+-- where the reading ended: what the scripts had printed stands behind the first line
+abbrev pub IsReadText : Words → Step → List ℕ → Type 0
+IsReadText said step.Top text = text ≡ []
+IsReadText said step.Reading text = (scripts : List ℕ) × (text ≡ progress said reading_text ++ scripts)
+IsReadText said other text = ⊥
+
+-- the help texts of a graph
+pub record IsHelpText (said : Words) (text : List ℕ) : Type 0 where
+  pub opening : List ℕ
+  pub opens : IsOpeningText said opening
+  pub graph : RuleGraph
+  pub whole : text ≡ opening ++ help_text graph.helps
+
+-- all that a run prints which ended at this step
+abbrev pub IsRunText : {W O : Type 0} → Meaning W → SinkMeaning O → Words → Step → W → W → Result Report Stop → List ℕ → Type 0
+IsRunText m p said step.Words old new result text = text ≡ []
+IsRunText m p said step.Load old new result text = IfSome said.load (λ rules. text ≡ load_text rules)
+IsRunText m p said step.Top old new result text = IsReadText said step.Top text
+IsRunText m p said step.Reading old new result text = IsReadText said step.Reading text
+IsRunText m p said step.Help old new result text = IsHelpText said text
+IsRunText m p said step.Requests old new result text = IsOpeningText said text
+IsRunText m p said other old new result text = IsBehindText said (λ g requests rest. IsServedText m p said other g requests old new result rest) text
+
+-- ---- the clauses
+
+-- A build prints so in a world that tells and is sure; where trees are shown nothing is said of it yet.
+abbrev pub Surely : {W : Type 0} → Meaning W → Words → Step → W → Type 0
+Surely m said step.Building new = m.tells new × m.sure new × (said.tree ≡ false)
+Surely m said other new = Unit {0}
+
+abbrev pub ReadPrints : {O T : Type 0} → SinkMeaning O → Words → Step → O → O → Result T Stop → Type 0
+ReadPrints p said at out new_out (Ok graph) = PrintsSuch p (Unit {0}) (IsOpeningText said) ⊥ out new_out
+ReadPrints p said at out new_out (Err s) = PrintsSuch p (Unit {0}) (IsReadText said at) (IsCutBy s) out new_out
+
+-- where the fault that ended a list is told, and the last line is written
+abbrev pub FaultPrints : {O : Type 0} → SinkMeaning O → Words → BuildFault → O → O → Result Report Stop → Type 0
+FaultPrints p said fault out new_out (Ok report) =
+    PrintsSuch p (Unit {0}) (λ text. text ≡ progress said (closing_text said (fault ∷ []))) (IsCutShort report) out new_out
+    × (report.status ≢ 3 → Contains report.faults (top_of fault))
+FaultPrints p said fault out new_out (Err s) = IsCutBy s × (new_out ≡ out)
+
+-- Of cleaning nothing is said yet.
+abbrev pub ServePrints : {W O : Type 0} → Meaning W → SinkMeaning O → Words → Step → RuleGraph → List Request → W → O → W → O → Result Report Stop → Type 0
+ServePrints m p said step.Cleaning g requests old out new new_out result = Unit {0}
+ServePrints m p said at g requests old out new new_out result =
+    PrintsSuch p (Surely m said at new) (IsServedText m p said at g requests old new result) (IsCut result) out new_out
+
+abbrev pub RunPrints : {W O : Type 0} → Meaning W → SinkMeaning O → Words → Step → W → O → W → O → Result Report Stop → Type 0
+RunPrints m p said step.Cleaning old out new new_out result = Unit {0}
+RunPrints m p said at old out new new_out result =
+    PrintsSuch p (Surely m said at new) (IsRunText m p said at old new result) (IsCut result) out new_out
