@@ -4,6 +4,7 @@
 //! `edit PATH TEXT` (`\n` in the text stands for a line feed), `delete PATH`, `build WORDS`, and `stopped CALLS PICK WORDS`. Told are the
 //! status of each build and what it printed, and the files behind the last event; or why the history is refused, and at which event.
 #![tactic(auto)]
+
 ghost use Rattle.std.specs.Prelude.{◌≡◌, [], None, IfSome};
 ghost use Rattle.world_mem.specs.AsAround.{around_of};
 
@@ -53,7 +54,13 @@ fn world_of(alloc: Global) -> Option<MemWorld>
     ensures unfused { IfSome result (λ world. world.calls.fuse ≡ None) }
 {
     let table = ActTable::new(Vec::new(alloc));
-    match MemWorld::new(alloc, Vec::new(alloc), table, Vec::new(alloc), Vec::new(alloc)) {
+    match MemWorld::new(
+        alloc,
+        Vec::new(alloc),
+        table,
+        Vec::new(alloc),
+        Vec::new(alloc),
+    ) {
         Ok(world) => Some(world),
         Err(_) => None,
     }
