@@ -1,8 +1,12 @@
 -- What tells the truth does so behind each event, and a build that ends with status 0 behind others ends clean.
-use Rattle.std.proofs.Common.{◌≡◌, ◌∙◌, ◌⊎◌, inl, inr, ℕ, List, [], ◌++◌, ◌∷◌, Contains, Some, None, refl, sym, subst, ap, option_map}
+use Rattle.std.proofs.Common.{◌≡◌, ◌∙◌, ◌⊎◌, ◌↔◌, inl, inr, ℕ, Bool, true, false, List, [], ◌++◌, ◌∷◌, ◌+◌, ◌<◌, Contains, Option, Some, None, refl, sym, subst, ap, option_map, suc, take, drop, length, get_or, arith}
+use Rattle.std.specs.Prelude.{IfErr, IsErrAnd, IsTrue, Result, Ok, Err}
+use Rattle.std.specs.Option.{is_some}
+use Rattle.std.proofs.Math.Seq.{take-suc}
+use Rattle.std.proofs.lemmas.List.{append_assoc, length-take-le, take-append-drop}
 use Rattle.world_api.specs.Around.{Around, IsRunningTarget}
 use Rattle.world_api.specs.Banks.{Banks}
-use Rattle.world_api.specs.Meaning.{IsImage}
+use Rattle.world_api.specs.Meaning.{IsImage, IsSettled}
 use Rattle.world_api.specs.declared.disk.Bank.{Bank}
 use Rattle.world_api.specs.declared.disk.Bank.TheVariants.{A, B}
 use Rattle.mem_banks.specs.AsStore.{store_of}
@@ -12,12 +16,11 @@ use Rattle.world_mem.specs.AsAround.{around_of}
 use Rattle.world_mem.specs.Means.{around_in, seen_in, world_meaning}
 use Rattle.world_mem.specs.declared.state.State.{State}
 use Rattle.world_mem.specs.declared.world.MemWorld.{MemWorld}
-use Rattle.deciders.specs.declared.recorded.Rec.{Rec}
 use Rattle.sign_store.specs.Ends.{image_in}
 use Rattle.sign_store.specs.Images.{image_of}
 use Rattle.sign_store.specs.Tables.{Map, nothing}
 use Rattle.build_model.specs.Records.{AreSound, IsMadeBy}
-use Rattle.build_model.specs.Rules.{Among, Bytes, Path, Record, Records, Setting, Tree, here}
+use Rattle.build_model.specs.Rules.{Among, Bytes, Path, Record, Records, Setting, Tree, here, there}
 use Rattle.build_model.proofs.Histories.{sound_too}
 use Rattle.build_model.proofs.Lists.{among_left, none_some}
 use Rattle.build_means.specs.Graphs.{act_by, digest_by}
@@ -31,10 +34,11 @@ use Rattle.scons_words.specs.declared.words.Words.{Words}
 use Rattle.scons_top.specs.Builds.{HasBuilt}
 use Rattle.scons_top.specs.Stopping.{RunsSafely}
 use Rattle.scons_top.specs.declared.report.Report.{Report}
-use Rattle.build_history.specs.Events.{IsEdit, IsFused, IsLeftBy, IsRemoval, IsRun, IsStopped}
-use Rattle.build_history.specs.Histories.{EndsClean, EndsCleanly, HasNoRecords, IsTrueWorld, Tells}
+use Rattle.build_history.specs.Events.{AreSettled, IsEdit, IsFused, IsLeftBy, IsRemoval, IsRun, IsStopped}
+use Rattle.build_history.specs.Histories.{EndsClean, EndsCleanly, Goes, HasNoRecords, IsHistory, IsRefused, IsTold, IsTrueWorld, Refuses, Tells, begins, goes_on}
 use Rattle.build_history.specs.declared.event.Event.{Event}
 use Rattle.build_history.specs.declared.event.Event.TheVariants as event
+use Rattle.build_history.specs.declared.event.HistoryFault.{HistoryFault}
 use Rattle.build_history.specs.declared.told.Told.{Told}
 
 -- ---- files
@@ -43,10 +47,9 @@ use Rattle.build_history.specs.declared.told.Told.{Told}
 only_here : {p path : Path} → Contains (path ∷ []) p → p ≡ path
 only_here {p} {path} m = at (contains_among (path ∷ []) m)
   where
-    at : Among p (path ∷ []) → p ≡ path
-    at h = elim h [ | here ↦ refl | there none ↦ absurd_in none ]
-    absurd_in : {X : Type 0} → Among p [] → X
-    absurd_in m = elim m [ ]
+    at : {q : Path} → Among q (path ∷ []) → q ≡ path
+    at here = refl
+    at (there m) = elim m [ ]
 
 module _ (s : Setting) where
   -- where files but one are as they were, and that one is gone or has no record
@@ -71,7 +74,7 @@ module _ (s : Setting) where
       by p r bytes is file (inl m) = changed p r bytes is file (only_here m)
       by p r bytes is file (inr free) =
           on.true_of_files p r bytes is
-          (sym (files p (λ same. free (subst (λ x. Contains (path ∷ []) x) (sym same) (among_contains here)))) ∙ file)
+          (sym (files p (λ same. free (subst (λ x. Contains (path ∷ []) x) (sym same) (among_contains (here {xs = []}))))) ∙ file)
 
   -- ---- banks
 
@@ -111,9 +114,9 @@ module _ (s : Setting) where
     left_true : (pick : ℕ) → IsLeftBy pick old new → TellsTruth world_meaning s old → TellsTruth world_meaning s new
     left_true pick by truth t u banks image left is_left =
         let before = λ (bank : Bank).
-            subst (λ (bytes : List ℕ). world_meaning.image old bank bytes) (sym (by.settled bank (banks bank) (image bank))) (by.images bank) in
+        subst (λ (bytes : List ℕ). world_meaning.image old bank bytes) (sym (by.settled bank (banks bank) (image bank))) (by.images bank) in
         let grows = λ (b : Bytes) (m : Among b (around_in old).met).
-            subst (λ (met : List Bytes). Among b met) (sym by.left.met) (among_left _ m) in
+        subst (λ (met : List Bytes). Among b met) (sym by.left.met) (among_left _ m) in
         sound_too s s refl refl grows
         (truth t u banks before left (λ p free.
         is_left p (none_runs (around_in new).running p by.left.running) ∙ by.left.files p free))
@@ -123,8 +126,8 @@ abbrev TruthOf : Setting → State → MemBanks → Type 0
 TruthOf s state kept = Unit {0} → Unit {0} → (banks : Banks) → ((bank : Bank) → past.IsImage (store_of kept) bank (banks bank)) →
     IsSafeMoment s (around_of state) banks
 
-fused_true : (s : Setting) (calls : ℕ) (old new : MemWorld) → IsFused calls old new → TellsTruth world_meaning s old → TellsTruth world_meaning s new
-fused_true s calls old new fused truth =
+fused_true : (s : Setting) (number : ℕ) (old new : MemWorld) → IsFused number old new → TellsTruth world_meaning s old → TellsTruth world_meaning s new
+fused_true s number old new fused truth =
     subst (λ (state : State). TruthOf s state new.banks) (sym fused.state)
     (subst (λ (kept : MemBanks). TruthOf s old.state kept) (sym fused.banks) truth)
 
@@ -175,9 +178,9 @@ ends_clean : (first : MemWorld) (words : List (List ℕ)) (old new : MemWorld) (
     IsRun words old new report → EndsClean first words old new report
 ends_clean first words old new report truth run first_true said is ask zero = elim (run.builds said is ask tt tt) [
   | inl built ↦ record {
-      built = built;
-      clean = λ ended by. (built.succeeds ended).clean (truth first_true _ (record { acts = refl; digests = refl })) by;
-    }
+    built = built;
+    clean = λ ended by. (built.succeeds ended).clean (truth first_true _ (record { acts = refl; digests = refl })) by;
+  }
   | inr ends ↦ absurd (ends.0 zero)
 ]
 
@@ -194,3 +197,83 @@ pub blank_true : (world : MemWorld) → HasNoRecords world → IsTrueWorld world
 blank_true world none s of t u banks image left is_left =
     subst (λ (map : Map). AreSound s (around_in world).met left (records_in map)) (sym (none banks image))
     (record { at_targets = λ p r is. none_some is; true_of_files = λ p r bytes is file. none_some is })
+
+-- ---- an edit that is taken
+
+none_of : {X : Type 0} (o : Option X) → is_some o ≡ false → o ≡ None
+none_of (Some x) e = absurd (cc e)
+none_of None e = refl
+
+-- both banks are settled
+pub are_settled : (world : MemWorld) (a b : Bool) → a ≡ true → b ≡ true → IsTrue a ↔ IsSettled world_meaning world A →
+    IsTrue b ↔ IsSettled world_meaning world B → AreSettled world
+are_settled world a b is_a is_b settled_a settled_b A = settled_a.0 is_a
+are_settled world a b is_a is_b settled_a settled_b B = settled_b.0 is_b
+
+-- the banks have no record of a path
+pub unrecorded : (world : MemWorld) (path a b : List ℕ) (found : Bool) → a ≡ seen_in world A → b ≡ seen_in world B →
+    found ≡ is_some (image_of a b path) → found ≡ false → image_in (seen_in world) path ≡ None
+unrecorded world path a b found is_a is_b is none =
+    none_of (image_in (seen_in world) path)
+    (ap (λ x. is_some (image_of x (seen_in world B) path)) (sym is_a)
+    ∙ ap (λ x. is_some (image_of a x path)) (sym is_b) ∙ sym is ∙ none)
+
+-- ---- from event to event
+
+-- how far a history has come
+pub record IsSoFar (first : MemWorld) (past : List Event) (told : Told) : Type 0 where
+  pub history : IsHistory first past told
+  pub stays_true : IsTrueWorld first → IsTrueWorld told.world
+  pub idle : (around_in told.world).running ≡ []
+
+pub so_far_first : (told : Told) (first : MemWorld) → told.world ≡ first → told.trees.items ≡ [] → told.reports.items ≡ [] → told.outs.items ≡ [] →
+    (around_in first).running ≡ [] → IsSoFar first [] told
+so_far_first told first world trees reports outs idle = record {
+  history = begins world trees reports outs;
+  stays_true = λ truth. subst IsTrueWorld (sym world) truth;
+  idle = ap (λ (w : MemWorld). (around_in w).running) world ∙ idle;
+}
+
+pub so_far_next : {first : MemWorld} {past : List Event} {old new : Told} (e : Event) → IsSoFar first past old → Goes e old new →
+    IsSoFar first (past ++ e ∷ []) new
+so_far_next {first} {past} {old} {new} e so goes = record {
+  history = goes_on so.history (record { goes = goes; clean = ends_cleanly first e old.world new.world so.stays_true });
+  stays_true = λ truth. stays_true e old new so.idle goes.tells (so.stays_true truth);
+  idle = goes.idle;
+}
+
+one_more : (n : ℕ) → suc n ≡ n + 1
+one_more n = omega arith
+
+-- the event at a place of a list, behind those before it
+pub so_far_at : {first : MemWorld} {old new : Told} (events : List Event) (place : ℕ) (e : Event) → place < length events →
+    get_or events place e ≡ e → IsSoFar first (take place events) old → Goes e old new → IsSoFar first (take (place + 1) events) new
+so_far_at {first} {old} {new} events place e within at so goes =
+    subst (λ n. IsSoFar first (take n events) new) (one_more place) (subst (λ past. IsSoFar first past new)
+    (ap (λ x. take place events ++ x ∷ []) (sym at) ∙ sym (take-suc events place e within)) (so_far_next e so goes))
+
+-- refused there
+pub refused_at : {first : MemWorld} {told : Told} (events : List Event) (place : ℕ) (e : Event) (f : HistoryFault) → place < length events →
+    get_or events place e ≡ e → IsSoFar first (take place events) told → Refuses place e told.world f → IsRefused events first f
+refused_at {first} {told} events place e f within at so refuses = record {
+  past = take place events;
+  e = e;
+  rest = drop (suc place) events;
+  parts = sym (take-append-drop (suc place) events) ∙ ap (λ x. x ++ drop (suc place) events)
+      (take-suc events place e within ∙ ap (λ x. take place events ++ x ∷ []) at)
+      ∙ append_assoc (take place events) (e ∷ []) (drop (suc place) events);
+  told = told;
+  history = so.history;
+  refuses = subst (λ n. Refuses n e told.world f) (sym (length-take-le place events (omega (arith, within)))) refuses;
+}
+
+pub told_all : {first : MemWorld} {told : Told} (events : List Event) (place : ℕ) → take place events ≡ events → IsSoFar first (take place events) told →
+    IsTold events first told
+told_all {first} {told} events place all so =
+    record { history = subst (λ past. IsHistory first past told) all so.history; stays_true = so.stays_true }
+
+-- a refusal goes through `?` as it is
+pub refused_exit : {T : Type 0} (r : Result T HistoryFault) (f : HistoryFault) (P : HistoryFault → Type 0) → IsErrAnd r (λ x. x ≡ f) → P f →
+    IfErr r P
+refused_exit (Ok value) f P is h = absurd is
+refused_exit (Err x) f P is h = subst P (sym is) h

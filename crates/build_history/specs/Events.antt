@@ -1,5 +1,5 @@
 -- What each event makes of a world in memory.
-use Rattle.std.specs.Prelude.{◌≡◌, ◌≢◌, ⊥, ℕ, List, [], None, Some, Ok, IsTrue}
+use Rattle.std.specs.Prelude.{◌≡◌, ℕ, List, [], None, Some, Ok, IsTrue}
 use Rattle.world_api.specs.Looks.{Looks}
 use Rattle.world_api.specs.Meaning.{IsSettled}
 use Rattle.world_api.specs.Statuses.{HasStatus}
@@ -48,8 +48,8 @@ pub record IsRun (words : List (List ℕ)) (old new : MemWorld) (report : Report
   pub idle : (around_in new).running ≡ []
 
 -- The same world, which fails from so many calls on.
-pub record IsFused (calls : ℕ) (old new : MemWorld) : Type 0 where
-  pub calls : new.calls ≡ record old.calls { fuse = Some calls }
+pub record IsFused (number : ℕ) (old new : MemWorld) : Type 0 where
+  pub calls : new.calls ≡ record old.calls { fuse = Some number }
   pub state : new.state ≡ old.state
   pub banks : new.banks ≡ old.banks
 

@@ -1,5 +1,5 @@
 -- Histories: edits, removals, builds and builds that were stopped, one after another.
-use Rattle.std.specs.Prelude.{◌≡◌, ◌×◌, ⊥, ⊤, ℕ, List, [], ◌++◌, ◌∷◌, Ok, true, false, length}
+use Rattle.std.specs.Prelude.{◌≡◌, ⊤, ℕ, List, [], ◌++◌, ◌∷◌, Ok, true, false, length}
 use Rattle.std.specs.Option.{is_some}
 use Rattle.world_api.specs.Meaning.{IsImage}
 use Rattle.world_api.specs.Banks.{Banks}

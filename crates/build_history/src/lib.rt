@@ -3,10 +3,10 @@
 //! A contract sees a history as the list of its events, each of which leads from one world to the next: `specs/Histories.antt`.
 #![tactic(auto)]
 
+mod course;
 mod event;
-mod history;
 mod told;
 
+pub use course::history;
 pub use event::{Event, HistoryFault};
-pub use history::history;
 pub use told::Told;

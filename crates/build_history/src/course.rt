@@ -1,4 +1,4 @@
-//! A list of events, one after another.
+//! The course of a history: its events, one after another.
 ghost use Rattle.std.specs.Prelude.{◌≡◌, ◌++◌, ◌∷◌, [], None, IfOk, IfErr, OnOk};
 ghost use Rattle.world_mem.specs.Means.{around_in};
 ghost use Rattle.build_history.specs.Events.{IsStopped};
@@ -11,11 +11,7 @@ use std::alloc::Global;
 use world_mem::MemWorld;
 
 /// What becomes of a world by these events. A refusal names the first event that is refused, and drops the world.
-pub fn history(
-    alloc: Global,
-    events: &[Event],
-    world: MemWorld,
-) -> Result<Told, HistoryFault>
+pub fn history(alloc: Global, events: &[Event], world: MemWorld) -> Result<Told, HistoryFault>
     requires idle { (around_in world).running ≡ [] }
     requires unfused { world.calls.fuse ≡ None }
     ensures told { IfOk result (IsTold events.now world) }
@@ -29,12 +25,7 @@ pub fn history(
 }
 
 /// The history with one event more, which stands at this place.
-fn after(
-    alloc: Global,
-    told: Told,
-    place: usize,
-    event: &Event,
-) -> Result<Told, HistoryFault>
+fn after(alloc: Global, told: Told, place: usize, event: &Event) -> Result<Told, HistoryFault>
     requires idle { (around_in told.world).running ≡ [] }
     ensures goes { IfOk result (Goes event.now told) }
     ensures fault { IfErr result (Refuses place event.now told.world) }
@@ -46,12 +37,7 @@ fn after(
 }
 
 /// What an event leaves.
-fn happened(
-    alloc: Global,
-    told: Told,
-    place: usize,
-    event: &Event,
-) -> Result<Told, HistoryFault>
+fn happened(alloc: Global, told: Told, place: usize, event: &Event) -> Result<Told, HistoryFault>
     requires idle { (around_in told.world).running ≡ [] }
     ensures happens { IfOk result (Happens event.now told) }
     ensures fault { IfErr result (Refuses place event.now told.world) }
@@ -90,13 +76,7 @@ fn build(alloc: Global, words: &[Text], told: &mut Told) -> Result<(), Memory>
 }
 
 /// Runs the command in a world that fails from so many calls on, and stops it there.
-fn stopped(
-    alloc: Global,
-    words: &[Text],
-    calls: u32,
-    pick: u32,
-    told: Told,
-) -> Result<Told, Memory>
+fn stopped(alloc: Global, words: &[Text], calls: u32, pick: u32, told: Told) -> Result<Told, Memory>
     requires idle { (around_in told.world).running ≡ [] }
     ensures stopped { IfOk result (StopsIn words.now calls pick told) }
 {
