@@ -176,7 +176,7 @@ module _ {W : Type 0} (m : Meaning W) where
 
 -- over the targets of rules
 
-numbered_some : (g : RuleGraph) (r : RuleId) (rules : List RuleId) (of : declared.Rule) → slice_get g.rules r.0 ≡ Some of
+pub numbered_some : (g : RuleGraph) (r : RuleId) (rules : List RuleId) (of : declared.Rule) → slice_get g.rules r.0 ≡ Some of
     → targets_of (rules_numbered g (r ∷ rules)) ≡ paths_of g of.targets ++ targets_of (rules_numbered g rules)
 numbered_some g r rules of at = ap (λ o. targets_of (with_rule (option_map (rule_in g) o) (rules_numbered g rules))) at
 

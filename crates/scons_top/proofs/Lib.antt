@@ -12,5 +12,6 @@ mod Shown
 mod Asking
 mod Marking
 mod Printing
+mod Removing
 mod Serving
 mod Telling

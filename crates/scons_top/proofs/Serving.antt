@@ -17,18 +17,20 @@ use Rattle.rule_graph.specs.declared.build_fault.BuildFault.{BuildFault}
 use Rattle.rule_graph.specs.declared.build_fault.BuildFault.TheVariants as fault
 use Rattle.sign_store.specs.Ends.{image_in}
 use Rattle.sign_store.specs.Tables.{Map}
-use Rattle.report_texts.specs.Texts.{building_text, done_text, help_text, load_text}
+use Rattle.report_texts.specs.Texts.{building_text, cleaned_text, cleaning_text, done_text, help_text, load_text}
 use Rattle.build_run.specs.Output.{BuildPrints, HasRunPrinting}
 use Rattle.build_run.specs.declared.end.BuildEnd.{BuildEnd}
 use Rattle.scons_words.specs.declared.words.Words.{Words}
+use Rattle.scons_report.specs.Cleaning.{IsCleanList, rules_numbered}
+use Rattle.scons_top.specs.Cleaned.{targets_of}
 use Rattle.scons_top.specs.Builds.{BeginsStore, wanted_by}
 use Rattle.world_api.specs.declared.refusal.Fault.{Fault}
 use Rattle.scons_top.specs.Endings.{AddsUnprinted, ClosesWith}
-use Rattle.scons_top.specs.Printed.{Printed, PrintsUpTo, PrintsUnless, IsPrintedOf, PrintsSuch, IsCutShort, IsCutBy, IsCut, LosesOut, AreFaultsOf, IsBuildText, IsBuildingText, IsServedText, IsOpeningText, IsBehindText, IsReadText, IsHelpText, IsRunText, Surely, FaultPrints, ServePrints, RunPrints}
+use Rattle.scons_top.specs.Printed.{Printed, PrintsUpTo, PrintsUnless, IsPrintedOf, PrintsSuch, IsCutShort, IsCutBy, IsCut, LosesOut, AreFaultsOf, IsBuildText, IsBuildingText, IsServedText, IsOpeningText, IsBehindText, IsReadText, IsHelpText, IsRunText, IsRemovedFront, IsCleanedText, IsCleanStopped, IsCleaningText, there_in, Surely, FaultPrints, ServePrints, RunPrints}
 use Rattle.scons_top.specs.Asked.{asked_of, words_asked}
 use Rattle.scons_top.specs.Requested.{AskForNodes, nodes_asked}
 use Rattle.scons_top.specs.Steps.{IsReadingStep, IsTold, ServesAt}
-use Rattle.scons_top.specs.RunLines.{progress, options_of, closing_text, ending_text, requests_text, rules_text}
+use Rattle.scons_top.specs.RunLines.{progress, options_of, closing_text, ending_text, removed_texts, requests_text, rules_text}
 use Rattle.scons_top.specs.Stops.{top_of}
 use Rattle.scons_top.specs.declared.report.Report.{Report}
 use Rattle.scons_top.specs.declared.report.Top.{Top}
@@ -295,7 +297,11 @@ module _ {W O : Type 0} (m : Meaning W) (p : SinkMeaning O) (said : Words) (defa
       joins (Unit {0}) (IsServedText m p said step.Store g requests mid new r) (λ g requests rest. IsServedText m p said step.Store g requests old new r rest) (λ so rest is. is) h
   run_served step.Listing serves h =
       joins (Unit {0}) (IsServedText m p said step.Listing g requests mid new r) (λ g requests rest. IsServedText m p said step.Listing g requests old new r rest) (λ so rest is. is) h
-  run_served step.Cleaning serves h = tt
+  run_served step.Cleaning serves h =
+      joins (m.tells new) (IsServedText m p said step.Cleaning g requests mid new r) (λ g requests rest. IsServedText m p said step.Cleaning g requests old new r rest)
+      (λ so rest is.
+      let here = told so in
+      subst (λ (x : Around). IsCleaningText said g requests x r rest) (around_asked (m.around old) (m.around mid) (idle (looks.told.told here)) (looks.around here)) is) h
   run_served step.Words serves h = absurd serves
   run_served step.Load serves h = absurd serves
   run_served step.Top serves h = absurd serves
@@ -373,18 +379,41 @@ module _ {W O : Type 0} (m : Meaning W) (p : SinkMeaning O) (said : Words) where
     whole = h.whole;
   }
 
-  pub run_ended : (at : Step) (old new : W) (out after : O) (s : Stop) (report : Report) → (IsCutBy s → IsCutShort report) → RunPrints m p said at old out new after (Err s)
+  stopped_ended : (cut short : Type 0) (g : RuleGraph) (requests : List Request) (around : Around) (text : List ℕ) → (cut → short) → IsCleanStopped cut said g requests around text
+      → IsCleanStopped short said g requests around text
+  stopped_ended cut short g requests around text so (inl h) = inl (so h.0, h.1)
+  stopped_ended cut short g requests around text so (inr (inl h)) = inr (inl h)
+  stopped_ended cut short g requests around text so (inr (inr h)) = inr (inr (so h.0, h.1))
+
+  clean_ended : (old new : W) (s : Stop) (report : Report) (text : List ℕ) → (report.status ≢ 0) → (IsCutBy s → IsCutShort report)
+      → IsBehindText said (λ g requests rest. IsServedText m p said step.Cleaning g requests old new (Err s) rest) text
+      → IsBehindText said (λ g requests rest. IsServedText m p said step.Cleaning g requests old new (Ok report) rest) text
+  clean_ended old new s report text fails cut h = record {
+    opening = h.opening;
+    opens = h.opens;
+    defaults = h.defaults;
+    graph = h.graph;
+    requests = h.requests;
+    words = h.words;
+    nodes = h.nodes;
+    rest = h.rest;
+    is = inr (fails, stopped_ended (IsCutBy s) (IsCutShort report) h.graph h.requests (m.around old) h.rest cut h.is);
+    whole = h.whole;
+  }
+
+  pub run_ended : (at : Step) (old new : W) (out after : O) (s : Stop) (report : Report) → (report.status ≢ 0) → (IsCutBy s → IsCutShort report) → RunPrints m p said at old out new after (Err s)
       → RunPrints m p said at old out new after (Ok report)
-  run_ended step.Words old new out after s report cut h = ends_as step.Words old new s report _ _ out after (λ text is. is) cut h
-  run_ended step.Load old new out after s report cut h = ends_as step.Load old new s report _ _ out after (λ text is. is) cut h
-  run_ended step.Top old new out after s report cut h = ends_as step.Top old new s report _ _ out after (λ text is. is) cut h
-  run_ended step.Reading old new out after s report cut h = ends_as step.Reading old new s report _ _ out after (λ text is. is) cut h
-  run_ended step.Help old new out after s report cut h = ends_as step.Help old new s report _ _ out after (λ text is. is) cut h
-  run_ended step.Requests old new out after s report cut h = ends_as step.Requests old new s report _ _ out after (λ text is. is) cut h
-  run_ended step.Cleaning old new out after s report cut h = tt
-  run_ended step.Listing old new out after s report cut h = ends_as step.Listing old new s report _ _ out after (λ text is. list_ended old new s report text cut is) cut h
-  run_ended step.Store old new out after s report cut h = ends_as step.Store old new s report _ _ out after (λ text is. store_ended old new s report text is) cut h
-  run_ended step.Building old new out after s report cut h = ends_as step.Building old new s report _ _ out after (λ text is. built_ended old new s report text cut is) cut h
+  run_ended step.Words old new out after s report fails cut h = ends_as step.Words old new s report _ _ out after (λ text is. is) cut h
+  run_ended step.Load old new out after s report fails cut h = ends_as step.Load old new s report _ _ out after (λ text is. is) cut h
+  run_ended step.Top old new out after s report fails cut h = ends_as step.Top old new s report _ _ out after (λ text is. is) cut h
+  run_ended step.Reading old new out after s report fails cut h = ends_as step.Reading old new s report _ _ out after (λ text is. is) cut h
+  run_ended step.Help old new out after s report fails cut h = ends_as step.Help old new s report _ _ out after (λ text is. is) cut h
+  run_ended step.Requests old new out after s report fails cut h = ends_as step.Requests old new s report _ _ out after (λ text is. is) cut h
+  run_ended step.Cleaning old new out after s report fails cut h =
+      ends_as step.Cleaning old new s report _ _ out after (λ text is. clean_ended old new s report text fails cut is) cut h
+  run_ended step.Listing old new out after s report fails cut h = ends_as step.Listing old new s report _ _ out after (λ text is. list_ended old new s report text cut is) cut h
+  run_ended step.Store old new out after s report fails cut h = ends_as step.Store old new s report _ _ out after (λ text is. store_ended old new s report text is) cut h
+  run_ended step.Building old new out after s report fails cut h = ends_as step.Building old new s report _ _ out after (λ text is. built_ended old new s report text cut is) cut h
 
 -- the step that is reported
 pub run_at : {W O : Type 0} (m : Meaning W) (p : SinkMeaning O) (said : Words) (reported at : Step) (old new : W) (out after : O) (r : Result Report Stop) → reported ≡ at
@@ -484,3 +513,53 @@ fault_memory p said f out (Err s) is = (subst IsCutBy (sym is) tt, refl)
 pub fault_told : {O : Type 0} (p : SinkMeaning O) (said : Words) (f : BuildFault) (out after : O) (r : Result Report Stop) → FaultPrints p said f out after r → p.tells after → p.tells out
 fault_told p said f out after (Ok report) h = h.0.told
 fault_told p said f out after (Err s) h = λ t. subst p.tells h.1 t
+
+-- cleaning
+
+module _ {W O : Type 0} (m : Meaning W) (p : SinkMeaning O) (said : Words) (g : RuleGraph) (requests : List Request) (old new : W) (out : O) where
+  pub serve_unclean : (after : O) (r : Result Report Stop) (s : Stop) → IsErrAnd r (λ x. x ≡ s) → IsCutBy s → PrintsSome p out after (progress said cleaning_text)
+      → ServePrints m p said step.Cleaning g requests old out new after r
+  serve_unclean after (Ok value) s is cut h = absurd is
+  serve_unclean after (Err x) s is cut h =
+      let short = subst IsCutBy (sym is) cut in
+      such_some p (m.tells new) (IsServedText m p said step.Cleaning g requests old new (Err x)) (IsCutBy x) out after (progress said cleaning_text) h (inl (short, refl)) short
+
+  begun : (mid : O) → Printed p out mid (progress said cleaning_text) → PrintsSuch p (m.tells new) (λ t. t ≡ progress said cleaning_text) ⊥ out mid
+  begun mid h = such_whole p (m.tells new) (λ t. t ≡ progress said cleaning_text) ⊥ out mid (progress said cleaning_text) h refl
+
+  pub serve_removing : (mid after : O) (list : List RuleId) (r : Result Report Stop) (s : Stop) → IsCleanList g (nodes_asked requests) list → Printed p out mid (progress said cleaning_text) → IsErrAnd r (λ x. x ≡ s)
+      → PrintsSuch p (m.tells new) (IsRemovedFront said (there_in (m.around old)) (targets_of (rules_numbered g list))) (IsCutBy s) mid after → ServePrints m p said step.Cleaning g requests old out new after r
+  serve_removing mid after list (Ok value) s listed one is h = absurd is
+  serve_removing mid after list (Err x) s listed one is h =
+      such_joined p (m.tells new) (m.tells new) (λ t. t ≡ progress said cleaning_text) (IsRemovedFront said (there_in (m.around old)) (targets_of (rules_numbered g list)))
+      (IsServedText m p said step.Cleaning g requests old new (Err x)) (IsCutBy x) out mid after (λ t. t)
+      (λ first second same front. inr (inl (record { list = list; is = listed; lines = second; removed = front; whole = ap (λ l. l ++ second) same })))
+      (begun mid one)
+      (subst (λ (stop : Stop). PrintsSuch p (m.tells new) (IsRemovedFront said (there_in (m.around old)) (targets_of (rules_numbered g list))) (IsCutBy stop) mid after) (sym is) h)
+
+  module _ (mid between after : O) (list : List RuleId) (listed : IsCleanList g (nodes_asked requests) list) (one : Printed p out mid (progress said cleaning_text))
+      (h : PrintsSuch p (m.tells new) (λ t. t ≡ removed_texts said (there_in (m.around old)) (targets_of (rules_numbered g list))) ⊥ mid between) where
+    abbrev lines : List ℕ
+    lines = removed_texts said (there_in (m.around old)) (targets_of (rules_numbered g list))
+
+    gone : PrintsSuch p (m.tells new) (λ t. t ≡ progress said cleaning_text ++ lines) ⊥ out between
+    gone =
+        such_joined p (m.tells new) (m.tells new) (λ t. t ≡ progress said cleaning_text) (λ t. t ≡ lines) (λ t. t ≡ progress said cleaning_text ++ lines) ⊥ out mid between (λ t. t)
+        (λ first second same is. ap (λ l. l ++ second) same ∙ ap (λ l. progress said cleaning_text ++ l) is) (begun mid one) h
+
+    whole : (first second : List ℕ) → first ≡ progress said cleaning_text ++ lines → second ≡ progress said cleaned_text → IsCleanedText said g requests (m.around old) (first ++ second)
+    whole first second same is = record { list = list; is = listed; whole = ap (λ l. l ++ second) same ∙ ap (λ l. (progress said cleaning_text ++ lines) ++ l) is }
+
+    pub serve_cleaned : (report : Report) → Printed p between after (progress said cleaned_text) → ServePrints m p said step.Cleaning g requests old out new after (Ok report)
+    serve_cleaned report last =
+        such_joined p (m.tells new) (m.tells new) (λ t. t ≡ progress said cleaning_text ++ lines) (λ t. t ≡ progress said cleaned_text) (IsServedText m p said step.Cleaning g requests old new (Ok report))
+        (IsCutShort report) out between after (λ t. t) (λ first second same is. inl (whole first second same is)) gone
+        (such_whole p (m.tells new) (λ t. t ≡ progress said cleaned_text) (IsCutShort report) between after (progress said cleaned_text) last refl)
+
+    pub serve_nearly : (r : Result Report Stop) (s : Stop) → IsErrAnd r (λ x. x ≡ s) → IsCutBy s → PrintsSome p between after (progress said cleaned_text) → ServePrints m p said step.Cleaning g requests old out new after r
+    serve_nearly (Ok value) s is cut last = absurd is
+    serve_nearly (Err x) s is cut last =
+        let short = subst IsCutBy (sym is) cut in
+        such_joined p (m.tells new) (m.tells new) (λ t. t ≡ progress said cleaning_text ++ lines) (λ t. t ≡ progress said cleaned_text) (IsServedText m p said step.Cleaning g requests old new (Err x))
+        (IsCutBy x) out between after (λ t. t) (λ first second same is. inr (inr (short, whole first second same is))) gone
+        (such_some p (m.tells new) (λ t. t ≡ progress said cleaned_text) (IsCutBy x) between after (progress said cleaned_text) last refl short)

@@ -38,7 +38,7 @@ use Rattle.scons_top.specs.Asked.{NamesNone, StopsFor}
 use Rattle.scons_top.specs.Foreign.{StopsByBytes}
 use Rattle.world_api.specs.Banks.{Banks}
 use Rattle.scons_top.specs.Endings.{AddsStopped, AddsUnwritten, AddsUnprinted}
-use Rattle.scons_top.specs.Stops.{top_of, stop_of_words, stop_of_list, stop_of_host, stop_of_store, HasSinkStop, IsInside, InnerStep}
+use Rattle.scons_top.specs.Stops.{top_of, stop_of_words, stop_of_list, stop_of_host, stop_of_store, HasSinkStop, IsInside, InnerStep, SinkStep}
 use Rattle.scons_top.specs.Steps.{ServesAt, RunsTo, ComesTo, LeavesAt, ComesAt, AllComeAt, AllFoundAt, StopsAt, ReportsAt, RunEndsAt, IsTreeEnd, IsReadingStep, IsListingStep, IsBuildingStep, IsFaultOr, IsStopOr, IsTold, StopsForWords, TellsUsage, IsRefused, RefusesWords}
 use Rattle.scons_top.specs.Watching.{Watches}
 use Rattle.scons_top.proofs.Building.{ends_looked}
@@ -72,6 +72,10 @@ pub sink_at : (at : Step) (a b : ℕ) (s : Stop) → HasSinkStop a b s → Stops
 sink_at at a b (stop.Fault f) h = absurd h
 sink_at at a b (stop.Build f) h = sink_fault at a b f h
 sink_at at a b stop.Memory h = tt
+
+pub sink_stops : {T : Type 0} (at : Step) (a b : ℕ) (r : Result T Stop) → SinkStep a b r → IfErr r (StopsAt at)
+sink_stops at a b (Ok value) h = tt
+sink_stops at a b (Err s) h = sink_at at a b s h
 
 -- the exits of a `?`
 pub stops_exit : {T : Type 0} (at : Step) (r : Result T Stop) (s : Stop) → IsErrAnd r (λ x. x ≡ s) → StopsAt at s → IfErr r (StopsAt at)

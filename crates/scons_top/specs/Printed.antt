@@ -1,5 +1,5 @@
 -- What a run prints on standard output, by the step at which it ended.
-use Rattle.std.specs.Prelude.{◌≡◌, ◌≢◌, ◌⊎◌, ℕ, Bool, true, false, List, [], ◌∷◌, ◌++◌, Contains, IfSome, map, Result, Ok, Err}
+use Rattle.std.specs.Prelude.{◌≡◌, ◌≢◌, ◌⊎◌, ℕ, Bool, true, false, List, [], ◌∷◌, ◌++◌, Contains, IfSome, is_some, map, Result, Ok, Err}
 use Rattle.world_api.specs.Meaning.{Meaning}
 use Rattle.world_api.specs.Printed.{SinkMeaning}
 use Rattle.world_api.specs.Printing.{IsPrefixed, PrintsSome}
@@ -10,7 +10,9 @@ use Rattle.rule_graph.specs.declared.build_fault.BuildFault.TheVariants as fault
 use Rattle.rule_graph.specs.declared.wish.Wish.{Wish}
 use Rattle.sign_store.specs.Ends.{image_in}
 use Rattle.sign_store.specs.Tables.{Map}
-use Rattle.report_texts.specs.Texts.{reading_text, building_text, help_text, load_text}
+use Rattle.report_texts.specs.Texts.{reading_text, building_text, cleaned_text, cleaning_text, help_text, load_text}
+use Rattle.world_api.specs.Around.{Around}
+use Rattle.scons_report.specs.Cleaning.{IsCleanList, rules_numbered}
 use Rattle.build_run.specs.Output.{HasRunPrinting}
 use Rattle.build_run.specs.declared.end.BuildEnd.{BuildEnd}
 use Rattle.scons_words.specs.declared.words.Words.{Words}
@@ -24,8 +26,9 @@ use Rattle.scons_top.specs.declared.stop.Stop.{Stop}
 use Rattle.scons_top.specs.declared.stop.Stop.TheVariants as stop
 use Rattle.scons_top.specs.Asked.{asked_of, words_asked}
 use Rattle.scons_top.specs.Builds.{wanted_by}
+use Rattle.scons_top.specs.Cleaned.{targets_of}
 use Rattle.scons_top.specs.Requested.{AskForNodes, nodes_asked}
-use Rattle.scons_top.specs.RunLines.{progress, opening_text, options_of, closing_text, ending_text, rules_text}
+use Rattle.scons_top.specs.RunLines.{progress, opening_text, options_of, closing_text, ending_text, removed_texts, rules_text, without}
 use Rattle.scons_top.specs.Stops.{top_of}
 
 -- ---- texts on a sink
@@ -132,11 +135,63 @@ IsListingText said requests (Ok report) text =
     (report.faults ≡ []) × IsListText said requests text ⊎ IsFaultyText said report text ⊎ IsCutShort report × IsListOrNone said requests text
 IsListingText said requests (Err s) text = IsCutBy s × IsListOrNone said requests text
 
+-- where files stand
+abbrev pub there_in : Around → List ℕ → Bool
+there_in around path = is_some (around.tree path)
+
+-- where they stand once those at these paths went
+abbrev pub left_by : Words → (List ℕ → Bool) → List (List ℕ) → List ℕ → Bool
+left_by said there [] = there
+left_by said there (path ∷ paths) = left_by said (without said there path) paths
+
+-- the same of a world that tells
+abbrev pub LeavesBy : {W : Type 0} → Meaning W → Words → List (List ℕ) → W → W → Type 0
+LeavesBy m said paths old new = m.tells new → (path : List ℕ) → there_in (m.around new) path ≡ left_by said (there_in (m.around old)) paths path
+
+-- the lines of a front of these paths
+pub record IsRemovedFront (said : Words) (there : List ℕ → Bool) (paths : List (List ℕ)) (text : List ℕ) : Type 0 where
+  pub front : List (List ℕ)
+  pub back : List (List ℕ)
+  pub parts : paths ≡ front ++ back
+  pub whole : text ≡ removed_texts said there front
+
+-- A step that removes files at these paths prints their lines, and where it stops those of a front.
+abbrev pub RemovesPrinting : {W O T : Type 0} → Meaning W → SinkMeaning O → Words → List (List ℕ) → W → O → W → O → Result T Stop → Type 0
+RemovesPrinting m p said paths old out new new_out (Ok value) =
+    PrintsSuch p (m.tells new) (λ text. text ≡ removed_texts said (there_in (m.around old)) paths) ⊥ out new_out
+RemovesPrinting m p said paths old out new new_out (Err s) =
+    PrintsSuch p (m.tells new) (IsRemovedFront said (there_in (m.around old)) paths) (IsCutBy s) out new_out
+
+-- Behind the line that says so, cleaning prints the line of each target of the clean list that is a file, and at its end the last line.
+pub record IsCleanedText (said : Words) (g : RuleGraph) (requests : List Request) (around : Around) (text : List ℕ) : Type 0 where
+  pub list : List RuleId
+  pub is : IsCleanList g (nodes_asked requests) list
+  pub whole : text ≡ progress said cleaning_text ++ removed_texts said (there_in around) (targets_of (rules_numbered g list)) ++ progress said cleaned_text
+
+-- where it stopped the lines of a front of the targets
+pub record IsCleanFront (said : Words) (g : RuleGraph) (requests : List Request) (around : Around) (text : List ℕ) : Type 0 where
+  pub list : List RuleId
+  pub is : IsCleanList g (nodes_asked requests) list
+  pub lines : List ℕ
+  pub removed : IsRemovedFront said (there_in around) (targets_of (rules_numbered g list)) lines
+  pub whole : text ≡ progress said cleaning_text ++ lines
+
+-- or, where it was cut short, a front of all that
+abbrev pub IsCleanStopped : Type 0 → Words → RuleGraph → List Request → Around → List ℕ → Type 0
+IsCleanStopped cut said g requests around text =
+    cut × (text ≡ progress said cleaning_text) ⊎ IsCleanFront said g requests around text ⊎ cut × IsCleanedText said g requests around text
+
+abbrev pub IsCleaningText : Words → RuleGraph → List Request → Around → Result Report Stop → List ℕ → Type 0
+IsCleaningText said g requests around (Ok report) text =
+    IsCleanedText said g requests around text ⊎ (report.status ≢ 0) × IsCleanStopped (IsCutShort report) said g requests around text
+IsCleaningText said g requests around (Err s) text = IsCleanStopped (IsCutBy s) said g requests around text
+
 -- what is printed once it is known what is requested
 abbrev pub IsServedText : {W O : Type 0} → Meaning W → SinkMeaning O → Words → Step → RuleGraph → List Request → W → W → Result Report Stop → List ℕ → Type 0
 IsServedText m p said step.Building g requests old new result text = IsBuildingText m p said g requests old new result text
 IsServedText m p said step.Store g requests old new result text = text ≡ []
 IsServedText m p said step.Listing g requests old new result text = IsListingText said requests result text
+IsServedText m p said step.Cleaning g requests old new result text = IsCleaningText said g requests (m.around old) result text
 IsServedText m p said other g requests old new result text = ⊥
 
 -- ---- behind the opening
@@ -182,9 +237,10 @@ IsRunText m p said other old new result text = IsBehindText said (λ g requests 
 
 -- ---- the clauses
 
--- A build prints so in a world that tells and is sure; where trees are shown nothing is said of it yet.
+-- Cleaning prints so in a world that tells, and a build in one that is sure too; where trees are shown nothing is said of it yet.
 abbrev pub Surely : {W : Type 0} → Meaning W → Words → Step → W → Type 0
 Surely m said step.Building new = m.tells new × m.sure new × (said.tree ≡ false)
+Surely m said step.Cleaning new = m.tells new
 Surely m said other new = Unit {0}
 
 abbrev pub ReadPrints : {O T : Type 0} → SinkMeaning O → Words → Step → O → O → Result T Stop → Type 0
@@ -198,13 +254,10 @@ FaultPrints p said fault out new_out (Ok report) =
     × (report.status ≢ 3 → Contains report.faults (top_of fault))
 FaultPrints p said fault out new_out (Err s) = IsCutBy s × (new_out ≡ out)
 
--- Of cleaning nothing is said yet.
 abbrev pub ServePrints : {W O : Type 0} → Meaning W → SinkMeaning O → Words → Step → RuleGraph → List Request → W → O → W → O → Result Report Stop → Type 0
-ServePrints m p said step.Cleaning g requests old out new new_out result = Unit {0}
 ServePrints m p said at g requests old out new new_out result =
     PrintsSuch p (Surely m said at new) (IsServedText m p said at g requests old new result) (IsCut result) out new_out
 
 abbrev pub RunPrints : {W O : Type 0} → Meaning W → SinkMeaning O → Words → Step → W → O → W → O → Result Report Stop → Type 0
-RunPrints m p said step.Cleaning old out new new_out result = Unit {0}
 RunPrints m p said at old out new new_out result =
     PrintsSuch p (Surely m said at new) (IsRunText m p said at old new result) (IsCut result) out new_out

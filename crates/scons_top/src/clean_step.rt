@@ -1,13 +1,16 @@
 //! Cleaning: the targets of what was requested are removed.
-ghost use Rattle.std.specs.Prelude.{◌≡◌, ◌∷◌, [], None, IfOk, IfErr, OnOk, IsTrue, is_some};
+ghost use Rattle.std.specs.Prelude.{◌≡◌, ◌∷◌, [], None, true, IfOk, IfErr, OnOk, IsTrue, is_some, if◌then◌else◌};
 ghost use Rattle.build_files.specs.Causes.{HasLookCause};
 ghost use Rattle.build_means.specs.Rules.{paths_of};
 ghost use Rattle.build_run.specs.Goings.{Stays};
 ghost use Rattle.scons_report.specs.Cleaning.{rules_numbered};
 ghost use Rattle.scons_top.specs.Cleaned.{AreRemoved, CleansAsked, Cleared, is_file_kind, targets_of};
+ghost use Rattle.report_texts.specs.Texts.{removed_text};
+ghost use Rattle.scons_top.specs.Printed.{LeavesBy, PrintsUpTo, RemovesPrinting, ServePrints};
+ghost use Rattle.scons_top.specs.RunLines.{notice};
 ghost use Rattle.scons_top.specs.Requested.{AskForNodes, nodes_asked};
 ghost use Rattle.scons_top.specs.Steps.{IsTreeEnd, RunEndsAt, StopsAt};
-ghost use Rattle.scons_top.specs.Stops.{OutSteps, OutReports};
+ghost use Rattle.scons_top.specs.Stops.{OutSteps, OutReports, SinkStep};
 ghost use Rattle.scons_top.specs.Faults.{IsLateStop};
 ghost use Rattle.scons_top.specs.Stopping.{RunsSafely};
 ghost use Rattle.world_api.specs.Statuses.{HasStatus};
@@ -44,6 +47,7 @@ pub(crate) fn clean_requests<W: World, O: Sink>(
     ensures stays { Stays W.meaning world.old world.new }
     ensures safe { RunsSafely W.meaning world.old world.new }
     ensures reports { OutReports W.meaning O.meaning world.old out.old world.new out.new result }
+    ensures prints { AskForNodes graph.now requests.now → ServePrints W.meaning O.meaning words.now Step.Cleaning graph.now requests.now world.old out.old world.new out.new result }
     ensures dry { IsTrue words.now.dry → Watches W.meaning world.old world.new }
     ensures late { IfErr result IsLateStop }
     ensures faults { IfOk result (λ report. report.faults ≡ []) }
@@ -75,6 +79,8 @@ fn clean_rules<W: World, O: Sink>(
     ensures steps { OutSteps W.meaning O.meaning world.old out.old world.new out.new result }
     ensures dry { IsTrue words.now.dry → Watches W.meaning world.old world.new }
     ensures late { IfErr result IsLateStop }
+    ensures left { OnOk result (LeavesBy W.meaning words.now (targets_of (rules_numbered graph.now rules.now)) world.old world.new) }
+    ensures prints { RemovesPrinting W.meaning O.meaning words.now (targets_of (rules_numbered graph.now rules.now)) world.old out.old world.new out.new result }
 {
     for rule in rules {
         let targets = rule_at(graph, *rule)?.targets.as_slice();
@@ -101,6 +107,8 @@ fn clean_all<W: World, O: Sink>(
     ensures steps { OutSteps W.meaning O.meaning world.old out.old world.new out.new result }
     ensures dry { IsTrue words.now.dry → Watches W.meaning world.old world.new }
     ensures late { IfErr result IsLateStop }
+    ensures left { OnOk result (LeavesBy W.meaning words.now (paths_of graph.now targets.now) world.old world.new) }
+    ensures prints { RemovesPrinting W.meaning O.meaning words.now (paths_of graph.now targets.now) world.old out.old world.new out.new result }
 {
     for target in targets {
         clean(alloc, words, path_of(graph, *target)?, world, out)?;
@@ -125,9 +133,26 @@ fn clean<W: World, O: Sink>(
     ensures steps { OutSteps W.meaning O.meaning world.old out.old world.new out.new result }
     ensures dry { IsTrue words.now.dry → Watches W.meaning world.old world.new }
     ensures late { IfErr result IsLateStop }
+    ensures prints { RemovesPrinting W.meaning O.meaning words.now (path.now ∷ []) world.old out.old world.new out.new result }
 {
-    if is_removed(words, world, path)? {
-        tell(out, words, removed_text(alloc, path))?;
+    let removed = is_removed(words, world, path)?;
+    tell_removed(alloc, words, path, removed, out)
+}
+
+/// Says of a path that a file is removed there, if one is.
+fn tell_removed<O: Sink>(
+    alloc: Global,
+    words: &Words,
+    path: &PathText,
+    removed: bool,
+    out: &mut O,
+) -> Result<(), Stop>
+    ensures late { IfErr result IsLateStop }
+    ensures step { SinkStep (O.meaning.faults out.old) (O.meaning.faults out.new) result }
+    ensures prints { PrintsUpTo O.meaning (if removed then notice words.now (removed_text path.now) else []) out.old out.new result }
+{
+    if removed {
+        return tell(out, words, removed_text(alloc, path));
     }
     Ok(())
 }
@@ -142,6 +167,7 @@ fn is_removed<W: World>(words: &Words, world: &mut W, path: &PathText) -> Result
     ensures safe { RunsSafely W.meaning world.old world.new }
     ensures cause { HasLookCause (W.meaning.counts world.old) (W.meaning.counts world.new) result }
     ensures dry { IsTrue words.now.dry → Watches W.meaning world.old world.new }
+    ensures there { W.meaning.tells world.new → IfOk result (λ is. is ≡ is_some ((W.meaning.around world.old).tree path.now)) }
 {
     let stands = is_file(world, path)?;
     if stands {
@@ -160,6 +186,7 @@ fn take<W: World>(words: &Words, world: &mut W, path: &PathText) -> Result<bool,
     ensures safe { RunsSafely W.meaning world.old world.new }
     ensures cause { HasLookCause (W.meaning.counts world.old) (W.meaning.counts world.new) result }
     ensures dry { IsTrue words.now.dry → Watches W.meaning world.old world.new }
+    ensures taken { IfOk result (λ taken. taken ≡ true) }
 {
     if words.dry {
         return Ok(true);

@@ -2,7 +2,9 @@ use Rattle.build_means.specs.Rules.{paths_of}
 use Rattle.scons_top.specs.Cleaned.{Cleared}
 use Rattle.scons_top.proofs.Clearing.{GoneTo}
 use Rattle.scons_top.specs.Stopping.{RunsSafely}
-use Rattle.std.proofs.Common.{◌≡◌, ℕ}
+use Rattle.std.proofs.Common.{◌≡◌, ℕ, take}
+use Rattle.scons_top.specs.Printed.{LeavesBy}
+use Rattle.scons_top.proofs.Removing.{AllRemoved}
 use Rattle.std.specs.Prelude.{IsTrue}
 use Rattle.build_run.specs.Causes.{outside}
 use Rattle.build_run.specs.Goings.{Stays}
@@ -17,4 +19,6 @@ invariant-loop-target g l = record {
   dry : IsTrue l.words.dry → Watches g.W.Disk.meaning l.fn.world l.world;
   cleared : Cleared g.W.Disk.meaning (paths_of l.graph l.targets) l.fn.world l.world;
   gone : GoneTo g.W.Disk.meaning l.words l.graph l.targets l.target-index l.world;
+  left : LeavesBy g.W.Disk.meaning l.words (paths_of l.graph (take l.target-index l.targets)) l.fn.world l.world;
+  prints : AllRemoved g.W.Disk.meaning g.O.Sink.meaning l.words (paths_of l.graph (take l.target-index l.targets)) l.fn.world l.world l.fn.out l.out;
 }

@@ -1,3 +1,7 @@
+use Rattle.report_texts.specs.Texts.{cleaned_text, cleaning_text}
+use Rattle.scons_top.specs.declared.stop.Stop.TheVariants as stop
+use Rattle.scons_top.proofs.Printing.{some_all, some_none}
+use Rattle.scons_top.proofs.Serving.{serve_cleaned, serve_nearly, serve_removing, serve_unclean}
 use Rattle.scons_top.specs.declared.step.Step.TheVariants as step
 use Rattle.scons_top.specs.Requested.{AreNodes, nodes_asked}
 use Rattle.scons_top.proofs.Clearing.{asked_exit, cleans_ill, cleans_well, requested_list}
@@ -112,3 +116,50 @@ returns-clause-cleans g c = λ asks.
     let list = requested_list graph c.as_slice.result.now (nodes_asked c.args.requests.now) c.as_slice-2.result.now _ (c.as_slice.ensures.value ∙ c.in_ok-nodes.ensures.are) c.as_slice-2.ensures below
     c.in_ok-rules.ensures in
     cleans_well m c.args.words.now graph (nodes_asked c.args.requests.now) _ c.args.world.now c.clean_rules.new.world _ list c.clean_rules.ensures.cleared c.in_ok-clean_rules.ensures.gone
+
+pub returns-in_err-nodes-clause-prints : goal.returns-in_err-nodes-clause-prints
+returns-in_err-nodes-clause-prints g c = λ asks.
+    serve_unclean g.W.Disk.meaning g.O.Sink.meaning c.args.words.now c.args.graph.now c.args.requests.now c.args.world.now c.args.world.now c.args.out.now c.args.out.now c.from_residual.result stop.Memory
+    c.from_residual.ensures.1 tt (some_none g.O.Sink.meaning c.args.out.now _)
+
+pub returns-in_err-say-clause-prints : goal.returns-in_err-say-clause-prints
+returns-in_err-say-clause-prints g c = λ asks.
+    let r = c.from_residual-in_err-say in
+    let h = c.in_err-say.ensures.prints cleaning_text c.cleaning_text.ensures in
+    serve_unclean g.W.Disk.meaning g.O.Sink.meaning c.args.words.now c.args.graph.now c.args.requests.now c.args.world.now c.args.world.now c.args.out.now _ r.result _ r.ensures.1 h.0 h.1
+
+pub returns-in_err-rules-clause-prints : goal.returns-in_err-rules-clause-prints
+returns-in_err-rules-clause-prints g c = λ asks.
+    let r = c.from_residual-in_err-rules in
+    serve_unclean g.W.Disk.meaning g.O.Sink.meaning c.args.words.now c.args.graph.now c.args.requests.now c.args.world.now c.args.world.now c.args.out.now _ r.result stop.Memory r.ensures.1 tt
+    (some_all g.O.Sink.meaning _ _ _ (c.in_ok-say.ensures.prints cleaning_text c.cleaning_text.ensures))
+
+pub returns-in_err-clean_rules-clause-prints : goal.returns-in_err-clean_rules-clause-prints
+returns-in_err-clean_rules-clause-prints g c = λ asks.
+    let graph = c.args.graph.now in
+    let r = c.from_residual-in_err-clean_rules in
+    let below = are_below_all graph c.as_slice.result.now (subst (AreNodes graph) (sym c.as_slice.ensures.value) (c.in_ok-nodes.ensures.nodes graph asks)) in
+    let list = requested_list graph c.as_slice.result.now (nodes_asked c.args.requests.now) c.as_slice-2.result.now _ (c.as_slice.ensures.value ∙ c.in_ok-nodes.ensures.are) c.as_slice-2.ensures below
+    c.in_ok-rules.ensures in
+    serve_removing g.W.Disk.meaning g.O.Sink.meaning c.args.words.now graph c.args.requests.now c.args.world.now c.clean_rules.new.world c.args.out.now _ _ _ r.result _ list
+    (c.in_ok-say.ensures.prints cleaning_text c.cleaning_text.ensures) r.ensures.1 c.in_err-clean_rules.ensures.prints
+
+pub returns-in_err-say-2-clause-prints : goal.returns-in_err-say-2-clause-prints
+returns-in_err-say-2-clause-prints g c = λ asks.
+    let graph = c.args.graph.now in
+    let r = c.from_residual-in_err-say-2 in
+    let below = are_below_all graph c.as_slice.result.now (subst (AreNodes graph) (sym c.as_slice.ensures.value) (c.in_ok-nodes.ensures.nodes graph asks)) in
+    let list = requested_list graph c.as_slice.result.now (nodes_asked c.args.requests.now) c.as_slice-2.result.now _ (c.as_slice.ensures.value ∙ c.in_ok-nodes.ensures.are) c.as_slice-2.ensures below
+    c.in_ok-rules.ensures in
+    let h = c.in_err-say-2.ensures.prints cleaned_text c.cleaned_text.ensures in
+    serve_nearly g.W.Disk.meaning g.O.Sink.meaning c.args.words.now graph c.args.requests.now c.args.world.now c.clean_rules.new.world c.args.out.now _ _ _ _ list
+    (c.in_ok-say.ensures.prints cleaning_text c.cleaning_text.ensures) c.in_ok-clean_rules.ensures.prints r.result _ r.ensures.1 h.0 h.1
+
+pub returns-clause-prints : goal.returns-clause-prints
+returns-clause-prints g c = λ asks.
+    let graph = c.args.graph.now in
+    let below = are_below_all graph c.as_slice.result.now (subst (AreNodes graph) (sym c.as_slice.ensures.value) (c.in_ok-nodes.ensures.nodes graph asks)) in
+    let list = requested_list graph c.as_slice.result.now (nodes_asked c.args.requests.now) c.as_slice-2.result.now _ (c.as_slice.ensures.value ∙ c.in_ok-nodes.ensures.are) c.as_slice-2.ensures below
+    c.in_ok-rules.ensures in
+    serve_cleaned g.W.Disk.meaning g.O.Sink.meaning c.args.words.now graph c.args.requests.now c.args.world.now c.clean_rules.new.world c.args.out.now _ _ _ _ list
+    (c.in_ok-say.ensures.prints cleaning_text c.cleaning_text.ensures) c.in_ok-clean_rules.ensures.prints c.good.result (c.in_ok-say-2.ensures.prints cleaned_text c.cleaned_text.ensures)

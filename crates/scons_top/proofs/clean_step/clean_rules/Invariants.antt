@@ -2,7 +2,9 @@ use Rattle.scons_report.specs.Cleaning.{rules_numbered}
 use Rattle.scons_top.specs.Cleaned.{Cleared, targets_of}
 use Rattle.scons_top.proofs.Clearing.{RulesGoneTo}
 use Rattle.scons_top.specs.Stopping.{RunsSafely}
-use Rattle.std.proofs.Common.{◌≡◌, ℕ}
+use Rattle.std.proofs.Common.{◌≡◌, ℕ, take}
+use Rattle.scons_top.specs.Printed.{LeavesBy}
+use Rattle.scons_top.proofs.Removing.{AllRemoved}
 use Rattle.std.specs.Prelude.{IsTrue}
 use Rattle.build_run.specs.Causes.{outside}
 use Rattle.build_run.specs.Goings.{Stays}
@@ -17,4 +19,6 @@ invariant-loop-rule g l = record {
   dry : IsTrue l.words.dry → Watches g.W.Disk.meaning l.fn.world l.world;
   cleared : Cleared g.W.Disk.meaning (targets_of (rules_numbered l.graph l.rules)) l.fn.world l.world;
   gone : RulesGoneTo g.W.Disk.meaning l.words l.graph l.rules l.rule-index l.world;
+  left : LeavesBy g.W.Disk.meaning l.words (targets_of (rules_numbered l.graph (take l.rule-index l.rules))) l.fn.world l.world;
+  prints : AllRemoved g.W.Disk.meaning g.O.Sink.meaning l.words (targets_of (rules_numbered l.graph (take l.rule-index l.rules))) l.fn.world l.world l.fn.out l.out;
 }

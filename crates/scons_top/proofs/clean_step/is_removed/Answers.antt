@@ -1,3 +1,8 @@
+use Rattle.std.specs.Prelude.{is_some}
+use Rattle.std.proofs.Common.{ap, sym, Bool}
+use Rattle.world_api.specs.Around.{Around}
+use Rattle.scons_top.proofs.Building.{around_asked}
+use Rattle.scons_top.proofs.Removing.{then_there, no_value}
 use Rattle.std.proofs.Common.{◌∙◌, ◌≡◌, [], None, List, ℕ}
 use Rattle.std.proofs.lemmas.List.Elements.{All-nil, All-cons}
 use Rattle.build_run.proofs.Goings.{stays_on}
@@ -67,3 +72,22 @@ returns-clause-stays g c = stays_of _ _ _ c.is_file.ensures.watches
 pub returns-clause-safe : goal.returns-clause-safe
 returns-clause-safe g c =
     steps_looked g.W.Disk.meaning g.met.W.Disk.only_now c.args.world.now c.is_file.new.world c.is_file.ensures.watches.looks
+
+pub returns-then-stands-clause-there : goal.returns-then-stands-clause-there
+returns-then-stands-clause-there g c = λ t.
+    let m = g.W.Disk.meaning in
+    let looks = c.is_file.ensures.watches.looks in
+    let here = c.take.ensures.stays.goes.passes.told.told t in
+    let same = around_asked (m.around c.args.world.now) (m.around c.is_file.new.world) (c.requires.idle (looks.told.told here)) (looks.around here) in
+    then_there c.args.path.now (m.around c.args.world.now) (m.around c.is_file.new.world) c.in_ok-stands.stands c.take.result same (c.in_ok-stands.ensures.file here) c.if-stands.true c.take.ensures.taken
+
+pub returns-clause-there : goal.returns-clause-there
+returns-clause-there g c = λ t.
+    let m = g.W.Disk.meaning in
+    let looks = c.is_file.ensures.watches.looks in
+    let same = around_asked (m.around c.args.world.now) (m.around c.is_file.new.world) (c.requires.idle (looks.told.told t)) (looks.around t) in
+    sym c.if-stands.false ∙ c.in_ok-stands.ensures.file t ∙ ap (λ (x : Around). is_some (x.tree c.args.path.now)) same
+
+pub returns-in_err-stands-clause-there : goal.returns-in_err-stands-clause-there
+returns-in_err-stands-clause-there g c = λ t.
+    no_value (λ (is : Bool). is ≡ is_some ((g.W.Disk.meaning.around c.args.world.now).tree c.args.path.now)) _ c.from_residual.result c.from_residual.ensures.1

@@ -80,7 +80,7 @@ returns-in-Err-clause-prints g c = λ said is.
     let out = c.args.out.now in
     let after = c.take_words.new.out in
     run_at m p said _ _ old new out after (Ok c.ended.result) c.ended.ensures.at
-    (run_ended m p said c.take_words.new.at old new out after c.in-Err.stop c.ended.result (cut_ended c.in-Err.stop c.ended.result c.ended.ensures.told) (c.in-Err.ensures.prints said is))
+    (run_ended m p said c.take_words.new.at old new out after c.in-Err.stop c.ended.result c.ended.ensures.fails (cut_ended c.in-Err.stop c.ended.result c.ended.ensures.told) (c.in-Err.ensures.prints said is))
 
 pub returns-in-Err-clause-tells : goal.returns-in-Err-clause-tells
 returns-in-Err-clause-tells g c = tells_stopped g.E.Sink.meaning _ _ c.ended.new.err c.ended.result c.in-Err.ensures.tells c.ended.ensures.tells

@@ -73,7 +73,7 @@ pub returns-then-words-clause-tells : goal.returns-then-words-clause-tells
 returns-then-words-clause-tells g c = none_told g.E.Sink.meaning c.args.err.now c.clean_requests.result c.clean_requests.ensures.faults
 
 pub returns-then-words-clause-prints : goal.returns-then-words-clause-prints
-returns-then-words-clause-prints g c = λ asks. tt
+returns-then-words-clause-prints g c = λ asks. c.clean_requests.ensures.prints asks
 
 pub returns-then-words-2-clause-prints : goal.returns-then-words-2-clause-prints
 returns-then-words-2-clause-prints g c = λ asks. c.list_requests.ensures.prints
