@@ -51,3 +51,8 @@ pub ruleset ending = (looks_same, looks_joined, alone_same, of_look, look_after,
 pub exit_ok : {T E : Type 0} (P : E → Type 0) (Q : Type 0) (r : Result T E) → IsErrAnd r P → OnOk r Q
 exit_ok P Q (Ok value) is = absurd is
 exit_ok P Q (Err e) is = tt
+
+-- where a call ends in this error, and nothing was at fault before it
+pub exit_cause : {T : Type 0} (a b c : Counts) (e : ListEnd) (r : Result T ListEnd) → b ≡ a → HasEndCause b c e → IsErrAnd r (λ x. x ≡ e) → HasListCause a c r
+exit_cause a b c e (Ok value) same h is = absurd is
+exit_cause a b c e (Err x) same h is = subst (λ (y : ListEnd). HasEndCause a c y) (sym is) (end_after a b c e same h)

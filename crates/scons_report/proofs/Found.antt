@@ -100,7 +100,6 @@ module _ (b : Begun) (g : RuleGraph) (now : IsGraphNow b g) (number : ℕ) (r : 
   includes_by None paths p same = refl
   includes_by (Some bytes) paths p same = ap (λ ps. filter_map (found_for b.graph b.tree ps p) (includes_in (Some bytes))) same
 
-
 -- ---- more nodes
 
 below_more : (m n : ℕ) (nodes : List NodeId) → m ≤ n → are_below m nodes ≡ true → are_below n nodes ≡ true

@@ -33,7 +33,6 @@ use Rattle.plan_means.proofs.Taking.{numbered_there}
 use Rattle.scons_report.specs.Overs.{all_fresh, IsOver, needs_over, IsPlannedOrder}
 use Rattle.scons_report.proofs.Finished.{kn, s, found, is_made_rule, none_loops, needed_nodes, needs_are, needs_needed, roots_needed, AreNeeded}
 
-
 module _ (count : ℕ) (needed : ℕ → List RuleId) where
   -- behind which rules one stands
   behind_at : (before front : List RuleId) (rule : RuleId) (rest : List RuleId) → AreBehind count needed before (front ++ rule ∷ rest) →

@@ -4,6 +4,7 @@ mod Cleaning
 mod Drying
 mod Ending
 pub mod Found
+mod Foreseeing
 mod Going
 mod Finished
 mod Fronting

@@ -4,6 +4,7 @@ pub mod Causes
 pub mod Cleaning
 pub mod Cleans
 pub mod Dry
+pub mod Foreseen
 pub mod Overs
 pub mod Trees
 pub mod Walks

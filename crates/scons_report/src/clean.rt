@@ -81,7 +81,11 @@ fn enter_named(graph: &Graph, rule: &Rule, steps: &mut Vec<Step>) -> Result<(), 
     enter_all(graph, rule.sources.as_slice(), steps)
 }
 
-pub(crate) fn enter_all(graph: &Graph, nodes: &[NodeId], steps: &mut Vec<Step>) -> Result<(), Memory>
+pub(crate) fn enter_all(
+    graph: &Graph,
+    nodes: &[NodeId],
+    steps: &mut Vec<Step>,
+) -> Result<(), Memory>
     ensures { OnOk result (steps.new.items ≡ with_entered steps.old.items (makers_in graph.now nodes.now)) }
 {
     for place in (0..nodes.len()).rev() {

@@ -49,7 +49,15 @@ pub fn dry_list<W: World>(
     let mut inputs = Inputs::past(alloc, hash, graph, gone);
     let plan = plan_over(alloc, graph, &mut inputs, requested, world)?;
     let order = build_order(alloc, graph, &plan, requested)?;
-    let rules = list_all(alloc, world, graph, &mut inputs, view, &plan, order.as_slice())?;
+    let rules = list_all(
+        alloc,
+        world,
+        graph,
+        &mut inputs,
+        view,
+        &plan,
+        order.as_slice(),
+    )?;
     plan.finishes(graph);
     match cycle_of(alloc, graph, &plan) {
         Some(end) => Err(end),

@@ -6,6 +6,7 @@
 
 mod clean;
 mod dry;
+mod laws;
 mod order;
 mod over;
 mod shown;
@@ -15,6 +16,7 @@ mod tree_end;
 pub use build_files::ListEnd;
 pub use clean::clean_list;
 pub use dry::{cycle_fault, dry_list};
+pub use laws::lists_foresee;
 pub use report_texts::{
     building_text, cleaned_text, cleaning_text, done_text, done_with_errors_text, fault_text,
     help_text, load_text, nothing_text, read_text, reading_text, removed_text, rule_text,

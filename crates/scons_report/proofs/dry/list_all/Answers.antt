@@ -15,9 +15,11 @@ loop-rule-init g c =
     record {
       looks = looks_same _ _;
       counts = refl;
-      lists = λ tells own b requested stamps is o.
-          (is, none_listed b b.tree stamps (records_in (map_of_view c.args.view.now)) graph _ c.new.ensures.items
-          (c.in_ok-from_elem.ensures.items_if_clones_equal (λ y h. cc) ∙ ap (λ n. replicate n false) c.rules.ensures.len));
+      lists = λ tells own b requested stamps is o. (
+        is,
+        none_listed b b.tree stamps (records_in (map_of_view c.args.view.now)) graph _ c.new.ensures.items
+            (c.in_ok-from_elem.ensures.items_if_clones_equal (λ y h. cc) ∙ ap (λ n. replicate n false) c.rules.ensures.len),
+      );
     }
 
 pub returns-in_err-look_at-clause-looks : goal.returns-in_err-look_at-clause-looks
@@ -38,14 +40,15 @@ loop-rule-preserved g c =
           let before = was.lists mid own b requested stamps is o in
           let rule : RuleId = get_or order place (record { 0 = 0 }) in
           let within : place < length order = omega (arith, c.loop-rule-test.true) in
-          let item : rule ≡ get_or order place rule = get_or_default order place (record { 0 = 0 }) rule within in
-          (c.look_at.ensures.ready tells b requested b.tree stamps before.0,
-          subst (λ (front : List RuleId). AreListed b b.tree stamps (records_in (map_of_view c.args.view.now)) c.args.graph.now front c.look_at.new.listed)
-          (one_more b requested stamps c.args.graph.now c.loop-rule.inputs c.args.plan.now (m.around c.loop-rule.world) before.0 order o place rule within item)
-          (ok.lists tells own b requested b.tree stamps (take place order) before.0
-          (is_needed b requested stamps c.args.graph.now c.loop-rule.inputs c.args.plan.now (m.around c.loop-rule.world) before.0 order o place rule within item)
-          (is_behind b requested stamps c.args.graph.now c.loop-rule.inputs c.args.plan.now (m.around c.loop-rule.world) before.0 order o place rule within item)
-          before.1));
+          let item : rule ≡ get_or order place rule = get_or_default order place (record { 0 = 0 }) rule within in (
+            c.look_at.ensures.ready tells b requested b.tree stamps before.0,
+            subst (λ (front : List RuleId). AreListed b b.tree stamps (records_in (map_of_view c.args.view.now)) c.args.graph.now front c.look_at.new.listed)
+                (one_more b requested stamps c.args.graph.now c.loop-rule.inputs c.args.plan.now (m.around c.loop-rule.world) before.0 order o place rule within item)
+                (ok.lists tells own b requested b.tree stamps (take place order) before.0
+                (is_needed b requested stamps c.args.graph.now c.loop-rule.inputs c.args.plan.now (m.around c.loop-rule.world) before.0 order o place rule within item)
+                (is_behind b requested stamps c.args.graph.now c.loop-rule.inputs c.args.plan.now (m.around c.loop-rule.world) before.0 order o place rule within item)
+                before.1),
+          );
     }
 
 pub returns-clause-lists : goal.returns-clause-lists

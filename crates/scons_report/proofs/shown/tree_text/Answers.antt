@@ -19,4 +19,4 @@ returns-clause-shows g c = λ tells below b behind.
     shown_trees m b (g.W.Disk.meaning.around c.args.world.now).tree graph word c.args.nodes.now c.args.is_node c.args.out.now c.print_tree.new.out plan
     (c.in_ok-plan.ensures.plans tells below b behind) c.print_tree.result c.in_ok-plan.ensures.rests
     (subst (λ (children : List NodeId). PrintsTree m (tree_text (shown_in graph plan) word children) c.args.out.now c.print_tree.new.out c.print_tree.result)
-    c.children_asked.ensures c.print_tree.ensures)
+    c.children_asked-children.ensures c.print_tree.ensures)
