@@ -1,12 +1,12 @@
 -- The list of cleaning, by numbers of rules, is the order of the model's rules.
-use Rattle.std.proofs.Common.{arith, ◌≡◌, ◌<◌, ◌≤◌, ℕ, zero, suc, Bool, true, false, ◌&&◌, List, [], ◌∷◌, ◌++◌, length, Option, Some, None, refl, sym, subst, ap, ◌∙◌, inl, inr, ◌⊎◌, ltb-true}
-use Rattle.std.specs.Prelude.{All, slice_get, nat_eq, nat_lt}
+use Rattle.std.proofs.Common.{arith, ◌≡◌, ◌<◌, ℕ, zero, suc, Bool, true, false, ◌&&◌, List, [], ◌∷◌, ◌++◌, length, Option, Some, None, refl, sym, subst, ap, ◌∙◌, inl, inr, ◌⊎◌, ltb-true}
+use Rattle.std.specs.Prelude.{All, slice_get, nat_lt}
 use Rattle.std.specs.Option.{option_map, option_and_then}
-use Rattle.std.specs.List.{cons_option, list_all}
+use Rattle.std.specs.List.{cons_option}
 use Rattle.std.proofs.lemmas.List.{map-append}
 use Rattle.std.proofs.lemmas.List.Elements.{All-nil, All-cons, All-append}
 use Rattle.std.proofs.lemmas.List.Folds.{list_all-append}
-use Rattle.std.proofs.lemmas.Option.{slice_get-get_or, slice_get_past}
+use Rattle.std.proofs.lemmas.Option.{slice_get_past}
 use Rattle.scons_base.specs.declared.ids.NodeId.{NodeId}
 use Rattle.scons_base.specs.declared.ids.RuleId.{RuleId}
 use Rattle.node_tree.specs.Nodes.{number_of}
@@ -16,14 +16,14 @@ use Rattle.rule_graph.specs.Rules.{are_below, rule_of, IsRule}
 use Rattle.task_plan.specs.Orders.{is_among, Visits, nothing_left, met_again, not_known, met_first}
 use Rattle.task_plan.specs.Rooted.{makers_in}
 use Rattle.task_plan.proofs.ReachedLemmas.{first, later, first_or}
-use Rattle.build_model.specs.Rules.{Path, Rule, Among, here, there}
+use Rattle.build_model.specs.Rules.{Rule, Among, here, there}
 use Rattle.build_model.specs.Graphs.{declared_rule}
-use Rattle.build_model.specs.Needs.{with_rule, rules_at, Visits as Goes, nothing_left as goes_nowhere, met_again as goes_again, met_first as goes_into}
+use Rattle.build_model.specs.Needs.{with_rule, Visits as Goes, nothing_left as goes_nowhere, met_again as goes_again, met_first as goes_into}
 use Rattle.build_model.proofs.Lists.{true_false, none_some, some_same, among_same}
-use Rattle.build_means.specs.Rules.{IsReading, paths_of, rule_in, rules_in, rule_with}
-use Rattle.build_means.proofs.Lists.{all_there, map_among, among_map}
+use Rattle.build_means.specs.Rules.{IsReading, paths_of, rule_in, rules_in}
+use Rattle.build_means.proofs.Lists.{map_among, among_map}
 use Rattle.build_means.proofs.Readings.{node_path, target_number, target_rule, declared_is}
-use Rattle.scons_report.specs.Cleaning.{declared_for, leads_to, IsCleanOrder, rule_number, rules_numbered, IsCleanList}
+use Rattle.scons_report.specs.Cleaning.{declared_for, leads_to, rule_number, rules_numbered, IsCleanList}
 use Rattle.scons_report.specs.Cleans.{named_in, led_by, led_to}
 
 numbered_id : ℕ → RuleId

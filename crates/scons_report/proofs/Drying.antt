@@ -1,9 +1,9 @@
 -- The list of a dry run, from its beginning to its end.
-use Rattle.std.proofs.Common.{◌≡◌, ◌≢◌, ◌<◌, ◌≤◌, ◌∙◌, ◌++◌, ◌+◌, ℕ, zero, suc, Bool, Contains, true, false, List, [], ◌∷◌, All, length, take, take_all, drop, replicate, Option, Some, None, refl, sym, subst, ap, arith}
-use Rattle.std.specs.Prelude.{slice_get, get_or, Result, Ok, Err, OnOk, IfOk}
+use Rattle.std.proofs.Common.{◌≡◌, ◌≢◌, ◌<◌, ◌≤◌, ◌∙◌, ◌++◌, ◌+◌, ℕ, zero, suc, Bool, Contains, true, false, List, [], ◌∷◌, All, length, take, take_all, drop, replicate, Some, refl, sym, subst, ap, arith}
+use Rattle.std.specs.Prelude.{slice_get, get_or}
 use Rattle.std.specs.List.{list_any}
 use Rattle.std.specs.Str.{bytes_eq}
-use Rattle.std.proofs.lemmas.List.{get_or-replicate, get_or_past, length-replicate}
+use Rattle.std.proofs.lemmas.List.{length-replicate}
 use Rattle.std.proofs.lemmas.List.Elements.{All-nil}
 use Rattle.std.proofs.lemmas.Option.{slice_get-get_or}
 use Rattle.scons_base.specs.declared.ids.NodeId.{NodeId}
@@ -23,7 +23,7 @@ use Rattle.build_model.specs.Rules.{Path, Tree, Stamps, Rule, Records, Among}
 use Rattle.build_model.specs.Contents.{in_tree, dependencies}
 use Rattle.build_model.specs.Steps.{IsMissing}
 use Rattle.build_model.proofs.Lists.{true_false, none_some, some_same, among_same}
-use Rattle.build_means.specs.Grown.{Begun, begun_setting, rule_numbered}
+use Rattle.build_means.specs.Grown.{Begun, begun_setting}
 use Rattle.build_means.specs.Rules.{IsReading}
 use Rattle.build_files.specs.Beginnings.{Begins}
 use Rattle.build_files.specs.Kept.{past, stamp_past, AreTrue}
@@ -31,8 +31,8 @@ use Rattle.build_files.specs.Leftovers.{is_copied}
 use Rattle.build_files.specs.Marked.{is_marked}
 use Rattle.build_files.specs.declared.inputs.Inputs.{Inputs}
 use Rattle.plan_means.proofs.Taking.{has_number}
-use Rattle.scons_report.specs.Dry.{IsListed, AreThose, none_left, IsDryList, AreGone, begun_past, ListsDry, rules_with}
-use Rattle.scons_report.specs.Overs.{IsOutset, IsOver, IsPlannedOrder, needs_over, IsReadyToList, was_listed, AreListed}
+use Rattle.scons_report.specs.Dry.{IsListed, AreThose, none_left, IsDryList, AreGone, begun_past, rules_with}
+use Rattle.scons_report.specs.Overs.{IsOutset, IsOver, IsPlannedOrder, needs_over, IsReadyToList, AreListed}
 use Rattle.scons_report.specs.declared.dry.Listed.{Listed}
 use Rattle.scons_report.proofs.Going.{past_same}
 use Rattle.scons_report.proofs.Finished.{with_same, order_is, no_loop}

@@ -1,44 +1,42 @@
 -- A plan that was gone over to its end, where all rules count as made: its lists are what rules reach, and its order is the build order.
-use Rattle.std.proofs.Common.{◌≡◌, ◌≢◌, ◌<◌, ◌≤◌, ◌⊎◌, inl, inr, ⊎_elim, ◌∙◌, ◌++◌, ◌||◌, ℕ, true, false, Bool, List, [], ◌∷◌, length, Option, Some, None, refl, sym, subst, ap, arith, option_map}
-use Rattle.std.specs.Prelude.{slice_get, nat_eq, map}
-use Rattle.std.specs.List.{cons_option, list_all}
+use Rattle.std.proofs.Common.{◌≡◌, ◌≢◌, ◌<◌, ◌∙◌, ◌++◌, ℕ, true, false, List, [], ◌∷◌, length, Option, Some, None, refl, sym, subst, ap, arith, option_map}
+use Rattle.std.specs.Prelude.{slice_get}
+use Rattle.std.specs.List.{cons_option}
 use Rattle.std.proofs.lemmas.List.{map-append}
-use Rattle.std.proofs.lemmas.List.Folds.{list_any-append}
 use Rattle.std.proofs.lemmas.Option.{slice_get_within}
 use Rattle.scons_base.specs.declared.ids.NodeId.{NodeId}
 use Rattle.scons_base.specs.declared.ids.RuleId.{RuleId}
-use Rattle.rule_graph.specs.declared.rule.Rule as declared
 use Rattle.rule_graph.specs.Graphs.{RuleGraph, path_of}
 use Rattle.rule_graph.specs.Rules.{rule_of}
 use Rattle.world_api.specs.Around.{Around}
 use Rattle.task_plan.specs.States.{state_of}
-use Rattle.task_plan.specs.Met.{is_met, is_met_from, IsFrom}
+use Rattle.task_plan.specs.Met.{is_met_from, IsFrom}
 use Rattle.task_plan.specs.Named.{stands}
 use Rattle.task_plan.specs.Orders.{is_among, Visits, nothing_left, met_again, not_known, met_first}
 use Rattle.task_plan.specs.Plans.{Planned}
 use Rattle.task_plan.specs.Rooted.{makers_in}
-use Rattle.task_plan.specs.Settled.{Kept, origin_of, deps_in, deps_of, is_scanned}
+use Rattle.task_plan.specs.Settled.{origin_of, deps_in, deps_of, is_scanned}
 use Rattle.task_plan.specs.Watched.{IsFinished}
 use Rattle.task_plan.specs.declared.files.Origin.{Origin}
 use Rattle.task_plan.specs.declared.files.Origin.TheVariants.{Unmet, Source, Made}
 use Rattle.task_plan.specs.declared.states.RuleState.{RuleState}
-use Rattle.task_plan.specs.declared.states.RuleState.TheVariants.{Unneeded, Settled}
-use Rattle.task_plan.proofs.MetNeeds.{all_stands, stands_at}
-use Rattle.task_plan.proofs.ReachedLemmas.{first, later, first_or}
+use Rattle.task_plan.specs.declared.states.RuleState.TheVariants.{Unneeded}
+use Rattle.task_plan.proofs.MetNeeds.{all_stands}
+use Rattle.task_plan.proofs.ReachedLemmas.{first, later}
 use Rattle.build_model.specs.Rules.{Path, Tree, Rule, Setting, Among, here, there}
 use Rattle.build_model.specs.Contents.{in_tree, found_in, dependencies}
-use Rattle.build_model.specs.Needs.{RuleOf, Found, Needs, as_required, as_dependency, NeedsThrough, directly, through, Needed, is_requested, is_needed, with_rule, rules_at, needs_in_order, IsBuildOrder, Visits as Goes, nothing_left as goes_nowhere, met_again as goes_again, met_first as goes_into}
+use Rattle.build_model.specs.Needs.{RuleOf, Found, Needs, NeedsThrough, directly, through, Needed, is_requested, is_needed, with_rule, rules_at, needs_in_order, IsBuildOrder, Visits as Goes, nothing_left as goes_nowhere, met_again as goes_again, met_first as goes_into}
 use Rattle.build_model.specs.Reach.{reach}
 use Rattle.build_model.specs.Steps.{Step}
 use Rattle.build_model.proofs.Lists.{true_false, none_some, some_same, among_same}
 use Rattle.build_model.proofs.Ordering.{in_order_needs}
 use Rattle.build_means.specs.Grown.{Begun, begun_setting, rule_numbered, IsLookedFor}
 use Rattle.build_means.specs.Rules.{paths_of}
-use Rattle.build_means.proofs.Lists.{among_map, or_second}
+use Rattle.build_means.proofs.Lists.{among_map}
 use Rattle.build_files.specs.declared.inputs.Inputs.{Inputs}
 use Rattle.plan_means.specs.Lists.{AreReach}
 use Rattle.plan_means.specs.Ties.{IsDecidedState, IsAt}
-use Rattle.plan_means.proofs.Knowing.{Knows, rule_made, stands_among, among_stands, one_below, in_needs, in_required, needed_met, need_below, need_at}
+use Rattle.plan_means.proofs.Knowing.{Knows, rule_made, among_stands, one_below, needed_met, need_below, need_at}
 use Rattle.plan_means.proofs.Needing.{maker_in}
 use Rattle.plan_means.proofs.Single.{one_number, target_of}
 use Rattle.plan_means.proofs.Taking.{rules_numbered, numbered_append, numbered_first, numbered_there, has_number}

@@ -1,8 +1,8 @@
 -- Each rule that a build starts was listed, or needs what a listed rule makes.
-use Rattle.std.proofs.Common.{◌≡◌, ◌⊎◌, inl, inr, ◌∙◌, ℕ, Bool, true, false, List, [], ◌∷◌, Option, Some, None, map, refl, sym, subst, ap}
-use Rattle.build_model.specs.Rules.{Path, Tree, Stamps, Rule, Dependency, Record, Setting, Among, here, there}
+use Rattle.std.proofs.Common.{◌≡◌, ◌⊎◌, inl, inr, ◌∙◌, ℕ, Bool, true, false, List, [], ◌∷◌, Option, Some, map, refl, sym, subst, ap}
+use Rattle.build_model.specs.Rules.{Path, Stamps, Rule, Dependency, Setting, Among, here, there}
 use Rattle.build_model.specs.Reach.{has}
-use Rattle.build_model.specs.Contents.{View, Known, in_tree, found_in, dependencies}
+use Rattle.build_model.specs.Contents.{View, in_tree, found_in, dependencies}
 use Rattle.build_model.specs.Laws.{IsBuild}
 use Rattle.build_model.specs.Needs.{Found, Needs, as_dependency, directly, through}
 use Rattle.build_model.specs.Records.{record_of, dependency_of}
@@ -12,8 +12,8 @@ use Rattle.build_model.proofs.Lists.{none_some, some_same, has_among, among_has,
 use Rattle.build_model.proofs.Ready.{needed_place}
 use Rattle.build_model.proofs.Runs.{begun_prepared, settled_done}
 use Rattle.build_model.proofs.Whole.{reach_reaches}
-use Rattle.scons_report.specs.Dry.{IsListed, is_due}
-use Rattle.scons_report.specs.Foreseen.{IsForeseen, NeedsForeseen, IsUntouched, ChangesMade}
+use Rattle.scons_report.specs.Dry.{is_due}
+use Rattle.scons_report.specs.Foreseen.{IsForeseen, NeedsForeseen, ChangesMade}
 
 -- ---- what is written
 

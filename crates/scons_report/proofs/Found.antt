@@ -1,5 +1,5 @@
 -- What a scan finds is what a file includes, by paths.
-use Rattle.std.proofs.Common.{◌≡◌, ◌<◌, ◌≤◌, ◌∙◌, ◌++◌, ◌&&◌, inl, inr, ℕ, zero, suc, true, false, Bool, List, [], ◌∷◌, Option, Some, None, length, refl, sym, ap, arith, lt-ltb, ltb-true, length-append, option_map}
+use Rattle.std.proofs.Common.{◌≡◌, ◌<◌, ◌≤◌, ◌∙◌, ◌++◌, ◌&&◌, inl, inr, ℕ, zero, suc, true, Bool, List, [], ◌∷◌, Option, Some, None, length, refl, sym, ap, arith, lt-ltb, ltb-true, length-append, option_map}
 use Rattle.std.specs.Prelude.{slice_get, nat_lt, unwrap_or}
 use Rattle.std.proofs.lemmas.Bool.{and_parts, and_from}
 use Rattle.std.specs.List.{filter_map}

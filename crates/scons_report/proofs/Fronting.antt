@@ -1,7 +1,6 @@
 -- In the order of a plan that was gone over to its end each rule stands behind all that it needs.
-use Rattle.std.proofs.Common.{◌≡◌, ◌≢◌, ◌<◌, ◌⊎◌, inl, inr, ⊎_elim, ◌∙◌, ◌++◌, ℕ, true, false, List, [], ◌∷◌, length, Option, Some, None, refl, sym, subst, ap, arith, option_map}
-use Rattle.std.specs.Prelude.{slice_get}
-use Rattle.std.specs.List.{cons_option, filter_map}
+use Rattle.std.proofs.Common.{◌≡◌, ◌≢◌, ◌<◌, ◌⊎◌, inl, inr, ⊎_elim, ◌∙◌, ◌++◌, ℕ, true, List, [], ◌∷◌, length, Some, refl, sym, subst, ap, arith, option_map}
+use Rattle.std.specs.List.{cons_option}
 use Rattle.std.proofs.lemmas.Option.{slice_get_within}
 use Rattle.scons_base.specs.declared.ids.NodeId.{NodeId}
 use Rattle.scons_base.specs.declared.ids.RuleId.{RuleId}
@@ -10,7 +9,6 @@ use Rattle.rule_graph.specs.Rules.{rule_of}
 use Rattle.world_api.specs.Around.{Around}
 use Rattle.task_plan.specs.States.{state_of}
 use Rattle.task_plan.specs.Met.{is_met, is_met_from, IsFrom}
-use Rattle.task_plan.specs.Named.{stands}
 use Rattle.task_plan.specs.Orders.{is_among, maker_of, makers_of, needed_in, needed_of, Visits, nothing_left, met_again, not_known, met_first, IsOrder, IsReached, is_root, is_needed, NeedsThrough as LeadsThrough, AreBehind}
 use Rattle.task_plan.specs.Plans.{Planned}
 use Rattle.task_plan.specs.Rooted.{makers_in}
@@ -23,8 +21,7 @@ use Rattle.task_plan.proofs.BehindLemmas.{order_behind}
 use Rattle.task_plan.proofs.ReachedLemmas.{first, later, first_or, below_or, none_among}
 use Rattle.build_model.specs.Rules.{Tree, Rule, Among, here, there}
 use Rattle.build_model.specs.Needs.{Found, RuleOf, Needs, NeedsThrough, directly, through}
-use Rattle.build_model.specs.Steps.{Step}
-use Rattle.build_model.proofs.Lists.{true_false, none_some, some_same, among_same}
+use Rattle.build_model.proofs.Lists.{true_false, some_same, among_same}
 use Rattle.build_model.proofs.Ordering.{in_order_needs}
 use Rattle.build_means.specs.Grown.{Begun, rule_numbered}
 use Rattle.build_files.specs.declared.inputs.Inputs.{Inputs}

@@ -1,8 +1,7 @@
 -- A plan that is gone over, where each rule counts as made: it begins so, and stays so.
-use Rattle.std.proofs.Common.{◌≡◌, ◌≢◌, ◌≤◌, ◌<◌, ◌⊎◌, inl, inr, ◌∙◌, ◌++◌, ◌||◌, ℕ, true, false, Bool, List, [], ◌∷◌, length, Some, None, refl, sym, subst, ap, arith, get_or-set_same}
+use Rattle.std.proofs.Common.{◌≡◌, ◌≢◌, ◌≤◌, ◌<◌, ◌⊎◌, inl, inr, ◌∙◌, ◌++◌, ◌||◌, ℕ, true, false, Bool, List, [], ◌∷◌, length, Some, refl, sym, subst, ap, arith, get_or-set_same}
 use Rattle.std.proofs.lemmas.List.{get_or_past}
 use Rattle.std.specs.Prelude.{slice_get, slice_set, if◌then◌else◌, is_err, Result, Ok, Err, OnOk}
-use Rattle.std.specs.List.{list_all}
 use Rattle.scons_base.specs.declared.ids.NodeId.{NodeId}
 use Rattle.scons_base.specs.declared.ids.RuleId.{RuleId}
 use Rattle.scons_base.specs.declared.limits.TheConstants.{NODE_LIMIT}
@@ -17,12 +16,11 @@ use Rattle.task_plan.specs.Named.{stands}
 use Rattle.task_plan.specs.Admits.{Fits, AllFollow, Knows as Learns}
 use Rattle.task_plan.specs.Met.{AllMet, AreFrom, AreNodes}
 use Rattle.task_plan.specs.Ordered.{KeepsOrder}
-use Rattle.task_plan.specs.Plans.{Planned, AreMet, Goes, IsDecidedNext, IsScannedNext, decided, is_halt}
+use Rattle.task_plan.specs.Plans.{Planned, Goes, IsDecidedNext, IsScannedNext, decided, is_halt}
 use Rattle.task_plan.specs.Rooted.{AreReached, KeepsSought}
 use Rattle.task_plan.specs.declared.want.PlanEvent.{PlanEvent}
-use Rattle.task_plan.specs.Queues.{is_open}
 use Rattle.task_plan.specs.Settled.{Kept, is_done, is_scanned, IsReady as IsThrough}
-use Rattle.task_plan.specs.Watched.{AreGoingOn, IsComplete, IsGoingOn}
+use Rattle.task_plan.specs.Watched.{IsComplete, IsGoingOn}
 use Rattle.task_plan.specs.declared.states.RuleState.{RuleState}
 use Rattle.task_plan.specs.declared.states.RuleState.TheVariants.{Unneeded, Waiting, Settled}
 use Rattle.task_plan.specs.declared.want.PlanEvent.TheVariants as told
@@ -33,10 +31,10 @@ use Rattle.task_plan.proofs.PlanLemmas.{set_other}
 use Rattle.task_plan.proofs.WalkLemmas.{within_or}
 use Rattle.build_model.specs.Rules.{Path, Tree, Rule, Setting, Among, here, there}
 use Rattle.build_model.specs.Reach.{IsScanned}
-use Rattle.build_model.specs.Contents.{in_tree, found_in, includes_of, dependencies}
+use Rattle.build_model.specs.Contents.{in_tree, found_in, dependencies}
 use Rattle.build_model.specs.Needs.{Needs, as_required, as_dependency}
 use Rattle.build_model.specs.Steps.{Step, Fresh, settled, IsReady, is_source, is_made, IsMissing, done}
-use Rattle.build_model.proofs.Lists.{none_some, some_same, true_false, among_same}
+use Rattle.build_model.proofs.Lists.{none_some, some_same, among_same}
 use Rattle.build_model.proofs.Whole.{reaches_in}
 use Rattle.build_means.specs.Grown.{Begun, begun_setting, rule_numbered}
 use Rattle.build_means.specs.Rules.{IsReading, paths_of}
@@ -44,7 +42,7 @@ use Rattle.build_means.proofs.Growing.{get_front}
 use Rattle.build_means.proofs.Lists.{at_place, among_map}
 use Rattle.build_means.proofs.Readings.{node_path}
 use Rattle.build_files.specs.Kept.{includes_in, past as looked_past, AreTrue}
-use Rattle.build_files.specs.Marked.{AreGoneOver, AreGoneOverFor, AreGoneOverWith}
+use Rattle.build_files.specs.Marked.{AreGoneOverFor, AreGoneOverWith}
 use Rattle.build_files.specs.Searched.{meant, AreNodesOf, GrowsTo}
 use Rattle.build_files.specs.declared.inputs.Inputs.{Inputs}
 use Rattle.plan_means.specs.Beginning.{AreLookedFor, IsLoaded}
@@ -63,7 +61,7 @@ use Rattle.plan_means.proofs.Stepping.{events_keep}
 use Rattle.plan_means.proofs.Wanting.{may_be_scanned}
 use Rattle.turn_means.proofs.Looked.{sought_are_looked_for, found_are_looked_for}
 use Rattle.scons_report.proofs.Found.{path_at, nodes_paths, nodes_below, first_target, paths_are, includes_by}
-use Rattle.scons_report.specs.Overs.{all_fresh, AreInOrder, IsOutset, IsOver}
+use Rattle.scons_report.specs.Overs.{all_fresh, IsOutset, IsOver}
 
 -- ---- states
 

@@ -1,12 +1,12 @@
 -- Whether a rule is due by the files around is whether it is so by the files as they are looked at.
-use Rattle.std.proofs.Common.{◌≡◌, ◌≢◌, ◌∙◌, ◌||◌, ℕ, Bool, true, false, List, [], ◌∷◌, ◌++◌, Option, Some, None, refl, sym, subst, ap, option_map}
+use Rattle.std.proofs.Common.{◌≡◌, ◌≢◌, ◌∙◌, ◌||◌, ℕ, Bool, true, false, List, [], ◌∷◌, ◌++◌, Some, None, refl, sym, subst, ap, option_map}
 use Rattle.std.specs.Prelude.{Result, Ok, Err, OnOk, if◌then◌else◌, slice_set}
 use Rattle.std.specs.List.{list_any}
 use Rattle.std.specs.Str.{bytes_eq}
 use Rattle.scons_base.specs.declared.ids.NodeId.{NodeId}
 use Rattle.scons_base.specs.declared.ids.RuleId.{RuleId}
 use Rattle.world_api.specs.Act.{Content}
-use Rattle.world_api.specs.Around.{Around, IsRunningTarget}
+use Rattle.world_api.specs.Around.{Around}
 use Rattle.world_api.specs.Calls.{Asks}
 use Rattle.world_api.specs.Reads.{stamp_of}
 use Rattle.deciders.specs.declared.recorded.Rec.{Rec}
@@ -18,10 +18,9 @@ use Rattle.task_plan.specs.Settled.{deps_of}
 use Rattle.task_plan.specs.declared.states.RuleState.TheVariants.{Unneeded}
 use Rattle.build_model.specs.Rules.{Path, Tree, Stamps, Rule, Record, Records, Setting, Among}
 use Rattle.build_model.specs.Contents.{in_tree, dependencies}
-use Rattle.build_model.specs.Graphs.{setting, rule_at}
 use Rattle.build_model.specs.Records.{record_of}
 use Rattle.build_model.specs.Steps.{IsMissing}
-use Rattle.build_model.proofs.Lists.{none_some, true_false, among_same}
+use Rattle.build_model.proofs.Lists.{among_same}
 use Rattle.build_means.specs.Due.{is_due}
 use Rattle.build_means.specs.Grown.{Begun, begun_setting, rule_numbered}
 use Rattle.build_means.specs.Present.{record_over, IsPresent}
@@ -34,9 +33,9 @@ use Rattle.build_files.specs.declared.record.Present.{Present}
 use Rattle.build_files.specs.declared.record.Present.TheVariants as shape
 use Rattle.build_files.specs.declared.inputs.Inputs.{Inputs}
 use Rattle.build_files.proofs.Marking.{over_same}
-use Rattle.plan_means.proofs.Knowing.{Knows, rule_made, stands_among}
+use Rattle.plan_means.proofs.Knowing.{Knows}
 use Rattle.turn_means.proofs.Deciding.{due_agrees}
-use Rattle.scons_report.specs.Overs.{all_fresh, IsOver, needs_over, IsReadyToList, is_fed_by, AreListed, Lists}
+use Rattle.scons_report.specs.Overs.{needs_over, IsReadyToList, is_fed_by, AreListed, Lists}
 use Rattle.scons_report.specs.declared.dry.Listed.{Listed}
 use Rattle.scons_report.proofs.Going.{none_runs, gone_same, past_same}
 use Rattle.scons_report.proofs.Finished.{kn, deps_are, target_rule}
@@ -154,9 +153,9 @@ pub lists_no : (old : Listed) (rule : RuleId) (found due : Bool) → found ≡ d
 lists_no old rule found due same never = lists_by old old rule false due (sym never ∙ same) refl
 
 -- what was read of a rule is this record
-pub present_is : (g : RuleGraph) (number : ℕ) (nodes deps : List NodeId) (gone : List Path) (around : Around) (b : Begun) (found : Present) (rec : Rec) →
-    nodes ≡ deps → found ≡ shape.Record rec → IsPresentFor g number nodes gone around b found → (r : Rule) → rule_numbered b g number ≡ Some r →
-    IsPresent b r (paths_of g deps) (past gone around.tree) (stamp_past gone around) rec × HasOwnDigests rec
-present_is g number nodes deps gone around b found rec list same is r e =
+pub present_is : (g : RuleGraph) (number : ℕ) (nodes listed : List NodeId) (gone : List Path) (around : Around) (b : Begun) (found : Present) (rec : Rec) →
+    nodes ≡ listed → found ≡ shape.Record rec → IsPresentFor g number nodes gone around b found → (r : Rule) → rule_numbered b g number ≡ Some r →
+    IsPresent b r (paths_of g listed) (past gone around.tree) (stamp_past gone around) rec × HasOwnDigests rec
+present_is g number nodes listed gone around b found rec list same is r e =
     subst (λ (ns : List NodeId). IsPresentAs b g r ns (past gone around.tree) (stamp_past gone around) (shape.Record rec)) list
     (subst (λ (x : Present). IsPresentAs b g r nodes (past gone around.tree) (stamp_past gone around) x) same (is r e))

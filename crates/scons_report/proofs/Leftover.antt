@@ -1,5 +1,5 @@
 -- A leftover copy is no target: no rule makes it, and it isn't copied.
-use Rattle.std.proofs.Common.{◌≡◌, ◌<◌, ◌⊎◌, inl, inr, ⊎_elim, ◌∙◌, ◌||◌, ◌&&◌, not, ℕ, zero, suc, arith, Bool, true, false, List, [], ◌∷◌, Contains, length, Option, Some, None, refl, sym, subst, ap, lt-ltb, option_map, ◌++◌, ◌+◌, take, get_or}
+use Rattle.std.proofs.Common.{◌≡◌, ◌<◌, ◌∙◌, ◌||◌, ◌&&◌, not, ℕ, zero, suc, arith, Bool, true, false, List, [], ◌∷◌, Contains, length, Option, Some, None, refl, sym, subst, ap, lt-ltb, option_map, ◌++◌, ◌+◌, take, get_or}
 use Rattle.std.proofs.lemmas.List.{take_more}
 use Rattle.std.proofs.lemmas.List.Folds.{list_any-append}
 use Rattle.std.specs.Prelude.{slice_get, nat_lt, is_some, if◌then◌else◌}

@@ -1,6 +1,6 @@
 -- A rule that is decided behind all that it needs is listed where it should be.
 use Rattle.std.proofs.Common.{◌≡◌, ◌≢◌, ◌<◌, ◌⊎◌, inl, inr, ⊎_elim, ◌∙◌, ◌++◌, ◌||◌, ℕ, true, false, Bool, List, [], ◌∷◌, All, length, Option, Some, None, refl, sym, subst, ap, arith, length-set, get_or-set_same, get_or-set_other}
-use Rattle.std.specs.Prelude.{get_or, slice_get, slice_set, nat_eq}
+use Rattle.std.specs.Prelude.{get_or, slice_set, nat_eq}
 use Rattle.std.specs.List.{list_any}
 use Rattle.std.proofs.lemmas.List.Elements.{All-nil, All-cons, All-append}
 use Rattle.std.proofs.lemmas.List.Folds.{list_any-append}
@@ -28,12 +28,11 @@ use Rattle.build_means.specs.Grown.{Begun, begun_setting, rule_numbered}
 use Rattle.build_means.specs.Rules.{paths_of}
 use Rattle.build_means.proofs.Lists.{among_map, map_among}
 use Rattle.plan_means.proofs.Knowing.{Knows, among_stands, in_needs}
-use Rattle.plan_means.proofs.Single.{one_number}
 use Rattle.build_files.specs.declared.inputs.Inputs.{Inputs}
 use Rattle.scons_report.specs.Dry.{IsListed, is_due, is_fed, AreThose, none_left, takes, leaves, rules_with}
-use Rattle.scons_report.specs.Overs.{IsOver, needs_over, IsReadyToList, was_listed, makes_listed, is_fed_by, AreListed, Lists}
+use Rattle.scons_report.specs.Overs.{needs_over, IsReadyToList, was_listed, makes_listed, is_fed_by, AreListed, Lists}
 use Rattle.scons_report.specs.declared.dry.Listed.{Listed}
-use Rattle.scons_report.proofs.Finished.{kn, with_same, makers_have, deps_are, needed_nodes, need_met, path_rule, IsMetNode}
+use Rattle.scons_report.proofs.Finished.{kn, makers_have, deps_are, needed_nodes, need_met, path_rule, IsMetNode}
 
 -- ---- lists
 

@@ -1,15 +1,13 @@
 -- What stands below a node by a plan that was gone over to its end is what its path is made of.
-use Rattle.std.proofs.Common.{◌≡◌, ◌≢◌, ◌∙◌, ◌++◌, ℕ, Bool, true, false, subst, List, [], ◌∷◌, Option, Some, None, refl, sym, ap, inl, inr, ◌⊎◌}
+use Rattle.std.proofs.Common.{◌≡◌, ◌∙◌, ℕ, Bool, false, subst, List, [], Option, Some, None, refl, sym, ap, inl, inr}
 use Rattle.std.specs.Prelude.{Result, Ok, Err, IsErrAnd}
 use Rattle.scons_base.specs.declared.ids.NodeId.{NodeId}
 use Rattle.rule_graph.specs.Graphs.{RuleGraph, path_of}
 use Rattle.rule_graph.specs.Rules.{rule_of}
 use Rattle.world_api.specs.Around.{Around}
-use Rattle.task_plan.specs.States.{state_of}
 use Rattle.task_plan.specs.Plans.{Planned}
 use Rattle.task_plan.specs.Settled.{deps_in}
 use Rattle.task_plan.specs.Watched.{IsFinished}
-use Rattle.task_plan.specs.declared.states.RuleState.TheVariants.{Unneeded}
 use Rattle.build_model.specs.Rules.{Path, Tree, Rule, Among}
 use Rattle.build_model.proofs.Lists.{among_same}
 use Rattle.build_means.specs.Grown.{Begun, begun_graph, begun_setting, IsGrown}
@@ -30,7 +28,7 @@ use Rattle.task_plan.specs.Plans.{IsIdle}
 use Rattle.scons_report.specs.declared.tree_end.TreeEnd.{TreeEnd}
 use Rattle.scons_report.specs.Asked.{children_asked}
 use Rattle.scons_report.specs.Walks.{PrintsTree}
-use Rattle.scons_report.specs.Built.{ShownTrees, IsBehind, made_by, made_of, IsShown, on_top, below, ShowsMade, IsShownBy}
+use Rattle.scons_report.specs.Built.{ShownTrees, IsBehind, made_by, made_of, IsShown, on_top, below, IsShownBy}
 use Rattle.scons_report.specs.Overs.{IsOutset, IsOver}
 use Rattle.scons_report.specs.Trees.{children_of, deps_at, shown_in, tree_text}
 use Rattle.scons_report.proofs.Finished.{kn, s, deps_are, IsMetNode, need_met, asked_met, path_rule, no_loop}

@@ -1,7 +1,7 @@
 -- Which rules a dry run lists. The manual page of SCons says under `-n` that the commands are printed that would be executed to build what
 -- is out of date, and that none is. What a command would make isn't known before it runs: so a rule counts as out of date, too, where it
 -- depends on what a listed rule makes, though that might come out as it stands. That is this project's own, and so is the order.
-use Rattle.std.specs.Prelude.{◌≡◌, ◌<◌, ℕ, true, List, [], ◌∷◌, length, All, Contains, Option, Some, None, Result, Ok, Err, IfOk}
+use Rattle.std.specs.Prelude.{◌≡◌, ◌<◌, true, List, [], ◌∷◌, length, All, Contains, Some, Result, IfOk}
 use Rattle.std.specs.List.{list_any}
 use Rattle.std.specs.Str.{bytes_eq}
 use Rattle.scons_base.specs.declared.ids.NodeId.{NodeId}

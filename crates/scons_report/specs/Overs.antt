@@ -1,5 +1,5 @@
 -- A plan that is gone over, where each rule counts as made: what is known of it meanwhile, and when it was gone over to its end.
-use Rattle.std.specs.Prelude.{◌≡◌, ◌≢◌, ◌<◌, ◌++◌, ℕ, Bool, true, false, List, [], ◌∷◌, All, Option, None, Some, Result, OnOk, IfOk, length, get_or, slice_get, slice_set, ◌||◌, Contains, ⊤}
+use Rattle.std.specs.Prelude.{◌≡◌, ◌≢◌, ◌<◌, ◌++◌, ℕ, Bool, true, false, List, [], ◌∷◌, All, Option, None, Some, Result, OnOk, IfOk, length, get_or, slice_get, slice_set, ◌||◌, ⊤}
 use Rattle.std.specs.List.{list_any}
 use Rattle.std.specs.Str.{bytes_eq}
 use Rattle.scons_base.specs.declared.ids.NodeId.{NodeId}

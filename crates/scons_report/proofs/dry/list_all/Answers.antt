@@ -1,4 +1,4 @@
-use Rattle.std.proofs.Common.{◌≡◌, ◌<◌, ◌∙◌, ◌+◌, List, refl, ap, sym, subst, take, length, arith, replicate, false, get_or}
+use Rattle.std.proofs.Common.{◌≡◌, ◌<◌, ◌∙◌, List, refl, ap, sym, subst, take, length, arith, replicate, false, get_or}
 use Rattle.std.proofs.lemmas.List.{get_or_default}
 use Rattle.scons_base.specs.declared.ids.RuleId.{RuleId}
 use Rattle.world_api.proofs.Looking.{looks_joined, looks_same}

@@ -1,5 +1,4 @@
-use Rattle.std.proofs.Common.{arith, ◌≡◌, ◌∙◌, ℕ, ◌-◌, List, [], ◌∷◌, ◌++◌, false, length, take, replicate, append-nil, ap, sym, subst}
-use Rattle.scons_base.specs.declared.ids.RuleId.{RuleId}
+use Rattle.std.proofs.Common.{arith, ◌≡◌, ◌∙◌, ℕ, ◌-◌, List, [], ◌∷◌, ◌++◌, false, length, take, replicate, append-nil, ap}
 use Rattle.task_plan.specs.Rooted.{makers_in}
 use Rattle.scons_report.specs.Overs.{needs_over}
 use Rattle.scons_report.proofs.CleanSteps.{begins, ends, leaves_on, enters_on}

@@ -1,4 +1,3 @@
-use Rattle.std.proofs.Common.{◌∙◌}
 use Rattle.world_api.proofs.Looking.{looks_joined}
 use Rattle.build_files.proofs.Marking.{over_none}
 use Rattle.scons_report.proofs.Found.{below_grown}

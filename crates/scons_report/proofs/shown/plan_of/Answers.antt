@@ -1,4 +1,3 @@
-use Rattle.std.proofs.Common.{ap}
 use Rattle.world_api.specs.declared.hash.Hash.TheVariants.{Md5}
 use Rattle.scons_report.proofs.Showing.{begins_behind, outset_behind, shown_by, shown_same, with_hash}
 use Rattle.scons_report.proofs.shown.plan_of.Goals as goal
