@@ -90,16 +90,17 @@ is_copy_of b g target source path from undeclared copied at from_at =
       is = ap (λ (path : Path). record (copy_in g (copying target source)) { targets = path ∷ [] }) one
           ∙ ap (λ (from : Path). record (copy_in g (copying target source)) { targets = path ∷ []; sources = from ∷ [] }) two;
       lines = refl;
+      builder = refl;
     }
 
 module _ (b : Begun) (g : RuleGraph) (inputs : Inputs) (around : Around) (x : Rule) (is : AreTrue b g inputs around) (after : IsReading (with_rule g x)) (copy : IsCopyOf b g x) where
   each : (r : Rule) → Among r is.grown.copies ⊎ (r ≡ x) → IsCopyOf b (with_rule g x) r
   each r (inl among) =
       let was = is.grown.each_copy r among in
-      record { path = was.path; source = was.source; undeclared = was.undeclared; copied = was.copied; is = was.is; lines = was.lines }
+      record { path = was.path; source = was.source; undeclared = was.undeclared; copied = was.copied; is = was.is; lines = was.lines; builder = was.builder }
   each r (inr same) =
       subst (λ y. IsCopyOf b (with_rule g x) y) (sym same)
-      (record { path = copy.path; source = copy.source; undeclared = copy.undeclared; copied = copy.copied; is = copy.is; lines = copy.lines })
+      (record { path = copy.path; source = copy.source; undeclared = copy.undeclared; copied = copy.copied; is = copy.is; lines = copy.lines; builder = copy.builder })
 
   pub ruled : AreTrue b (with_rule g x) inputs around
   ruled = record {

@@ -63,6 +63,7 @@ module _ (b : Begun) (g : RuleGraph) (inputs : Inputs) (around : Around) (path :
         copied = copy.copied;
         is = ap (λ (x : model.Rule). record x { copies = true }) same ∙ copy.is;
         lines = copy.lines;
+        builder = copy.builder;
       }
     where
       behind : {r : Rule} (copies rules : List Rule) → Among r copies → Among r (rules ++ copies)

@@ -30,7 +30,7 @@ begun_setting b = setting (begun_graph b) b.tree
 abbrev pub copy_in : RuleGraph → declared.Rule → Rule
 copy_in g r = record (rule_in g r) { copies = true }
 
--- a rule copies a path for which none was declared, by no lines
+-- a rule copies a path for which none was declared, by no lines and no builder
 pub record IsCopyOf (b : Begun) (g : RuleGraph) (r : declared.Rule) : Type 0 where
   pub path : Path
   pub source : Path
@@ -38,6 +38,7 @@ pub record IsCopyOf (b : Begun) (g : RuleGraph) (r : declared.Rule) : Type 0 whe
   pub copied : copied_from b.graph b.tree path ≡ Some source
   pub is : copy_in g r ≡ copy_rule path source
   pub lines : r.lines ≡ []
+  pub builder : r.builder ≡ []
 
 -- The graph is the one of the reading with nodes and copy rules behind.
 pub record IsGrown (b : Begun) (g : RuleGraph) : Type 0 where

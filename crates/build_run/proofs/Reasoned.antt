@@ -1,11 +1,12 @@
 -- The reason that is told for a rule as it starts is the one over what stood and was recorded as the build began.
-use Rattle.std.proofs.Common.{◌≡◌, ◌∙◌, ◌++◌, ◌∷◌, inl, inr, ℕ, Bool, true, false, List, [], Option, Some, None, map, ap, refl, subst, sym, length}
-use Rattle.std.specs.Prelude.{is_some, slice_get}
+use Rattle.std.proofs.Common.{arith, ◌≡◌, ◌∙◌, ◌++◌, ◌∷◌, inl, inr, ℕ, Bool, true, false, List, [], Option, Some, None, map, ap, refl, subst, sym, length}
+use Rattle.std.specs.Prelude.{◌&&◌, is_some, not, slice_get}
 use Rattle.std.specs.List.{AllByRecursion}
 use Rattle.std.specs.Option.{option_and_then, option_map}
 use Rattle.scons_base.specs.declared.ids.NodeId.{NodeId}
 use Rattle.scons_base.specs.declared.ids.RuleId.{RuleId}
 use Rattle.deciders.specs.Records.{IsValid}
+use Rattle.deciders.specs.Spelling.{work_byte}
 use Rattle.deciders.specs.declared.recorded.Dep.{Dep}
 use Rattle.deciders.specs.declared.recorded.Rec.{Rec}
 use Rattle.world_api.specs.Calls.{Asks}
@@ -30,7 +31,7 @@ use Rattle.build_model.specs.Stale.{first_stamp}
 use Rattle.build_model.specs.Steps.{Step}
 use Rattle.build_model.proofs.Lists.{nil_cons, same_head, same_tail}
 use Rattle.build_means.specs.Due.{is_due}
-use Rattle.build_means.specs.Grown.{Begun, copy_in, or_copy_in}
+use Rattle.build_means.specs.Grown.{Begun, IsCopyOf, copy_in, or_copy_in}
 use Rattle.build_means.specs.Records.{dependency_in, record_in, records_in}
 use Rattle.build_means.specs.Rules.{decider_of, paths_of, rule_in}
 use Rattle.build_means.proofs.Growing.{get_either, paths_stay}
@@ -53,7 +54,7 @@ use Rattle.build_run.specs.Along.{HeldBegan}
 use Rattle.build_run.specs.Holds.{Busy}
 use Rattle.build_run.specs.Outs.{AreOut}
 use Rattle.build_run.specs.StartTexts.{IsLineIf, IsOwnText, IsReasonLine, of_copy, of_declared}
-use Rattle.build_run.specs.Whys.{IsWhyBy, IsWhyText, TellsReason, is_told, old_of, started_text}
+use Rattle.build_run.specs.Whys.{IsWhyBy, IsWhyText, TellsReason, is_copy, is_told, old_of, started_text}
 use Rattle.build_run.specs.declared.building.Options.{Options}
 use Rattle.build_run.proofs.Choosing.{due_now, held_apart, map_beside, targets_are}
 use Rattle.build_run.proofs.Valid.{AreValid}
@@ -146,6 +147,48 @@ module _ (b : Begun) (g : RuleGraph) (now : IsGraphNow b g) where
       by : (silent : Bool) → started_text g (record options { silent = silent }) x why ≡ started_text b.graph (record options { silent = silent }) x why
       by true = refl
       by false = ap (λ text. why ++ text) (rule_text_stays x is)
+
+-- ---- a copy prints nothing
+
+copies_by : (work : Work) → work_byte work ≡ 1 → work ≡ Copy
+copies_by Shell e = absurd (omega (arith, e))
+copies_by Copy e = refl
+copies_by Write e = absurd (omega (arith, e))
+
+copy_is : (x : Rule) → x.work ≡ Copy → x.builder ≡ [] → is_copy x ≡ true
+copy_is x work builder =
+    ap (λ (w : Work). is_copy (record x { work = w })) work
+    ∙ ap (λ (b : List ℕ). is_copy (record x { work = Copy; builder = b })) builder
+
+lines_none : (g : RuleGraph) (x : Rule) → x.work ≡ Copy → x.builder ≡ [] → rule_text g x ≡ []
+lines_none g x work builder =
+    ap (λ (w : Work). rule_text g (record x { work = w })) work
+    ∙ ap (λ (b : List ℕ). rule_text g (record x { work = Copy; builder = b })) builder
+
+not_both : (explain silent : Bool) → (explain && not silent && not true) ≡ false
+not_both true true = refl
+not_both true false = refl
+not_both false silent = refl
+
+module _ (b : Begun) (g : RuleGraph) {x : Rule} (copy : IsCopyOf b g x) (options : Options) (kept : Map) (rec : Rec) (around : Around) (why : List ℕ)
+    (says : IsWhyBy (is_told options x) x kept rec around why) where
+  is_copying : x.work ≡ Copy
+  is_copying = copies_by x.work (ap (λ (q : model.Rule). q.work) copy.is)
+
+  untold : is_told options x ≡ false
+  untold =
+      ap (λ (c : Bool). options.explain && not options.silent && not c) (copy_is x is_copying copy.builder)
+      ∙ not_both options.explain options.silent
+
+  no_why : why ≡ []
+  no_why = subst (λ (told : Bool). IsWhyBy told x kept rec around why) untold says
+
+  copy_untold : started_text g options x why ≡ []
+  copy_untold = by options.silent
+    where
+      by : (silent : Bool) → started_text g (record options { silent = silent }) x why ≡ []
+      by true = refl
+      by false = ap (λ (lines : List ℕ). why ++ lines) (lines_none g x is_copying copy.builder) ∙ ap (λ (text : List ℕ). text ++ []) no_why
 
 -- ---- a rule that is due, and the text that says why
 
@@ -250,15 +293,8 @@ module _ (o : Outset) (outset : IsOutset o) (jobs : List Given) (s : Standing) (
 
       of_added : (x : Rule) → slice_get g.rules rule.0 ≡ Some x → slice_get o.wanted.graph.rules rule.0 ≡ None → Among x known.now.grown.copies →
           IsOwnText o options s.around rule.0 r text
-      of_added x at none m =
-          let is : copy_in g x ≡ r =
-          some_same (sym (ap (λ a. or_copy_in g a (slice_get g.rules rule.0)) none ∙ ap (option_map (copy_in g)) at) ∙ weighed.is) in
-          let decider : r.decider ≡ decider_of x.decider = ap (λ (q : model.Rule). q.decider) (sym is) in
-          of_copy g x none (known.now.grown.each_copy x m) (record {
-            why = why;
-            is = line_is x decider valid are options at why says tells due;
-            whole = is_text x at;
-          })
+      of_added x at undeclared m =
+          of_copy undeclared (is_text x at ∙ copy_untold (begun_at o) g (known.now.grown.each_copy x m) options (map_of store) rec s.around why (says x at))
 
       -- the text that is printed is that of the rule
       pub own_text : IsOwnText o options s.around rule.0 r text

@@ -46,7 +46,7 @@ module _ (o : Outset) (options : Options) (old new : Around) (r : model.Rule)
 
   pub own_on : (number : ℕ) (text : List ℕ) → IsOwnText o options old number r text → IsOwnText o options new number r text
   own_on number text (of_declared x at is) = of_declared x at (text_on o.wanted.graph x text is)
-  own_on number text (of_copy g x none copy is) = of_copy g x none copy (text_on g x text is)
+  own_on number text (of_copy undeclared none) = of_copy undeclared none
 
 -- ---- of each job that started
 

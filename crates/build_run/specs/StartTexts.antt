@@ -14,12 +14,11 @@ use Rattle.rule_graph.specs.Graphs.{RuleGraph}
 use Rattle.build_model.specs.Rules as model
 use Rattle.build_model.specs.Rules.{Path, Among}
 use Rattle.build_model.specs.Steps.{Step, Fresh, Began, Ended, Lacks, Halts}
-use Rattle.build_means.specs.Grown.{IsCopyOf}
 use Rattle.build_means.specs.Logs.{IsNewId}
 use Rattle.explain_report.specs.declared.reason.Reason.{Reason}
 use Rattle.explain_report.specs.Rules.{IsReasonOfRule}
 use Rattle.explain_report.specs.Texts.{reason_text}
-use Rattle.turn_means.specs.Standing.{Outset, begun_at, setting_at}
+use Rattle.turn_means.specs.Standing.{Outset, setting_at}
 use Rattle.turn_means.specs.Recording.{IsRecordOf}
 use Rattle.build_run.specs.Whys.{is_told, old_of, started_text}
 use Rattle.build_run.specs.declared.building.Options.{Options}
@@ -46,13 +45,12 @@ pub record IsTextOf (g : RuleGraph) (options : Options) (x : Rule) (IsLine : Lis
   pub is : IsLineIf (is_told options x) IsLine why
   pub whole : text ≡ started_text g options x why
 
--- The text of the rule with this number, which is this one of the model: one that was declared, or the copy rule of a path as a
--- graph has it that grew from the one that was read.
+-- The text of the rule with this number, which is this one of the model: one that was declared. The copy rule of a path, for which
+-- none was, has none.
 pub data IsOwnText (o : Outset) (options : Options) (around : Around) (number : ℕ) (r : model.Rule) (text : List ℕ) : Type 0 where
   of_declared : (x : Rule) → slice_get o.wanted.graph.rules number ≡ Some x →
       IsTextOf o.wanted.graph options x (IsReasonLine o around r x.decider) text → IsOwnText o options around number r text
-  of_copy : (g : RuleGraph) (x : Rule) → slice_get o.wanted.graph.rules number ≡ None → IsCopyOf (begun_at o) g x →
-      IsTextOf g options x (IsReasonLine o around r x.decider) text → IsOwnText o options around number r text
+  of_copy : slice_get o.wanted.graph.rules number ≡ None → text ≡ [] → IsOwnText o options around number r text
 
 -- the text of a job: that of the rule that makes its targets
 pub record IsJobText (o : Outset) (options : Options) (around : Around) (job : Job) (text : List ℕ) : Type 0 where
