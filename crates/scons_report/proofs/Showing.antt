@@ -113,7 +113,7 @@ module _ (b : Begun) (hash : Hash) where
     copies = is.copies;
     rules = is.rules;
     each_copy = λ r m. let c = is.each_copy r m in
-        record { path = c.path; source = c.source; undeclared = c.undeclared; copied = c.copied; is = c.is; lines = c.lines };
+        record { path = c.path; source = c.source; undeclared = c.undeclared; copied = c.copied; is = c.is; lines = c.lines; builder = c.builder };
   }
 
   -- a plan that stands behind a build begins so
