@@ -174,9 +174,9 @@ stays_true (event.Stopped words calls pick) old new idle tells truth =
 
 -- ---- the headline
 
-ends_clean : (first : MemWorld) (words : List (List ℕ)) (old new : MemWorld) (report : Report) → (IsTrueWorld first → IsTrueWorld old) →
-    IsRun words old new report → EndsClean first words old new report
-ends_clean first words old new report truth run first_true said is ask zero = elim (run.builds said is ask tt tt) [
+ends_clean : (first : MemWorld) (words : List (List ℕ)) (old new : MemWorld) (report : Report) (printed : List ℕ) → (IsTrueWorld first → IsTrueWorld old) →
+    IsRun words old new report printed → EndsClean first words old new report
+ends_clean first words old new report printed truth run first_true said is ask zero = elim (run.builds said is ask tt tt) [
   | inl built ↦ record {
     built = built;
     clean = λ ended by. (built.succeeds ended).clean (truth first_true _ (record { acts = refl; digests = refl })) by;
@@ -187,7 +187,7 @@ ends_clean first words old new report truth run first_true said is ask zero = el
 pub ends_cleanly : (first : MemWorld) (e : Event) (old new : MemWorld) → (IsTrueWorld first → IsTrueWorld old) → EndsCleanly first e old new
 ends_cleanly first (event.Edit path bytes) old new truth = tt
 ends_cleanly first (event.Delete path) old new truth = tt
-ends_cleanly first (event.Build words) old new truth = λ report run. ends_clean first words.items old new report truth run
+ends_cleanly first (event.Build words) old new truth = λ report printed run. ends_clean first words.items old new report printed truth run
 ends_cleanly first (event.Stopped words calls pick) old new truth = tt
 
 -- ---- as it begins

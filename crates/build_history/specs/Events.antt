@@ -1,5 +1,5 @@
 -- What each event makes of a world in memory.
-use Rattle.std.specs.Prelude.{◌≡◌, ℕ, List, [], None, Some, Ok, IsTrue}
+use Rattle.std.specs.Prelude.{◌≡◌, ℕ, List, [], None, Some, Ok, Err, IsTrue}
 use Rattle.world_api.specs.Looks.{Looks}
 use Rattle.world_api.specs.Meaning.{IsSettled}
 use Rattle.world_api.specs.Statuses.{HasStatus}
@@ -8,13 +8,17 @@ use Rattle.world_mem.specs.Blocked.{IsKept}
 use Rattle.world_mem.specs.ByHand.{Edits, Loses}
 use Rattle.world_mem.specs.LeftBy.{LeavesBy}
 use Rattle.world_mem.specs.Means.{around_in, seen_in, world_meaning}
+use Rattle.world_mem.specs.SinkMeans.{sink_meaning}
+use Rattle.world_mem.specs.declared.sink.MemSink.{MemSink}
 use Rattle.world_mem.specs.declared.world.MemWorld.{MemWorld}
 use Rattle.sign_store.specs.Ends.{image_in}
 use Rattle.scons_words.specs.Readings.{read}
+use Rattle.scons_words.specs.declared.fault.WordsFault.{WordsFault}
 use Rattle.scons_words.specs.declared.words.Words.{Words}
 use Rattle.scons_top.specs.Builds.{Builds}
 use Rattle.scons_top.specs.Cleaned.{Cleans}
-use Rattle.scons_top.specs.Steps.{AllComeAt, ComesTo, LeavesAt}
+use Rattle.scons_top.specs.Printed.{RunPrints}
+use Rattle.scons_top.specs.Steps.{AllComeAt, ComesTo, LeavesAt, RefusesWords}
 use Rattle.scons_top.specs.Stopping.{RunsSafely}
 use Rattle.scons_top.specs.declared.report.Report.{Report}
 
@@ -35,8 +39,8 @@ pub record IsRemoval (path : List ℕ) (old new : MemWorld) : Type 0 where
   pub loses : Loses path (around_in old) (around_in new)
   pub banks : new.banks ≡ old.banks
 
--- The command was run with these words, with what it promises of each run.
-pub record IsRun (words : List (List ℕ)) (old new : MemWorld) (report : Report) : Type 0 where
+-- The command was run with these words, with what it promises of each run; on standard output, where nothing stood, it printed this.
+pub record IsRun (words : List (List ℕ)) (old new : MemWorld) (report : Report) (printed : List ℕ) : Type 0 where
   pub comes : (said : Words) → read words ≡ Ok said → ComesTo said report.step
   pub leaves : LeavesAt world_meaning report.step old new
   pub faults : AllComeAt report.step report.faults
@@ -44,6 +48,12 @@ pub record IsRun (words : List (List ℕ)) (old new : MemWorld) (report : Report
   pub dry : (said : Words) → read words ≡ Ok said → IsTrue said.dry → Looks world_meaning old new
   pub cleans : (said : Words) → read words ≡ Ok said → Cleans world_meaning said old new report
   pub builds : (said : Words) → read words ≡ Ok said → Builds world_meaning said old new report
+  pub out : MemSink
+  pub blank : out.text.items ≡ []
+  pub new_out : MemSink
+  pub whole : new_out.text.items ≡ printed
+  pub prints : (said : Words) → read words ≡ Ok said → RunPrints world_meaning sink_meaning said report.step old out new new_out (Ok report)
+  pub refused : (why : WordsFault) → read words ≡ Err why → RefusesWords why old new out new_out report
   pub safe : RunsSafely world_meaning old new
   pub idle : (around_in new).running ≡ []
 
@@ -65,5 +75,6 @@ pub record IsStopped (words : List (List ℕ)) (calls pick : ℕ) (old new : Mem
   pub same : IsFused calls old fused
   pub ended : MemWorld
   pub report : Report
-  pub run : IsRun words fused ended report
+  pub printed : List ℕ
+  pub run : IsRun words fused ended report printed
   pub left : IsLeftBy pick ended new

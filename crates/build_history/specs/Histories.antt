@@ -72,7 +72,7 @@ pub record TellsNothing (old new : Told) : Type 0 where
 pub record TellsRun (words : List (List ℕ)) (old new : Told) : Type 0 where
   pub report : Report
   pub printed : List ℕ
-  pub run : IsRun words old.world new.world report
+  pub run : IsRun words old.world new.world report printed
   pub reports : new.reports.items ≡ old.reports.items ++ report ∷ []
   pub outs : new.outs.items ≡ old.outs.items ++ printed ∷ []
 
@@ -107,7 +107,8 @@ pub record Goes (e : Event) (old new : Told) : Type 0 where
 abbrev pub EndsCleanly : MemWorld → Event → MemWorld → MemWorld → Type 0
 EndsCleanly first (event.Edit path bytes) old new = ⊤
 EndsCleanly first (event.Delete path) old new = ⊤
-EndsCleanly first (event.Build words) old new = (report : Report) → IsRun words.items old new report → EndsClean first words.items old new report
+EndsCleanly first (event.Build words) old new =
+    (report : Report) (printed : List ℕ) → IsRun words.items old new report printed → EndsClean first words.items old new report
 EndsCleanly first (event.Stopped words calls pick) old new = ⊤
 
 -- one event of a history

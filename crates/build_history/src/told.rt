@@ -73,7 +73,7 @@ pub(crate) fn edit(
 /// Runs the command, which prints on two sinks of its own.
 pub(crate) fn run(alloc: Global, words: &[Text], world: &mut MemWorld) -> Result<Ran, Memory>
     requires idle { (around_in world.old).running ≡ [] }
-    ensures ran { IfOk result (λ ran. IsRun words.now world.old world.new ran.report) }
+    ensures ran { IfOk result (λ ran. IsRun words.now world.old world.new ran.report ran.printed) }
 {
     let mut out = MemSink::new(alloc, Vec::new(alloc))?;
     let mut err = MemSink::new(alloc, Vec::new(alloc))?;
