@@ -9,6 +9,7 @@ use Rattle.deciders.specs.Records.{IsValid}
 use Rattle.deciders.specs.Spelling.{work_byte}
 use Rattle.deciders.specs.declared.recorded.Dep.{Dep}
 use Rattle.deciders.specs.declared.recorded.Rec.{Rec}
+use Rattle.world_api.specs.Around.{Around}
 use Rattle.world_api.specs.Calls.{Asks}
 use Rattle.world_api.specs.Reads.{stamp_of}
 use Rattle.world_api.specs.declared.decider.Decider.{Decider}
