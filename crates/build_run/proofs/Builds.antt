@@ -14,7 +14,7 @@ use Rattle.sign_store.specs.Stores.{map_of}
 use Rattle.sign_store.specs.declared.store.Store.{Store}
 use Rattle.build_files.specs.declared.end.ListEnd.{ListEnd}
 use Rattle.build_means.specs.Builds.{Wanted, KeepsRecords, jobs_at_once}
-use Rattle.build_model.specs.Steps.{Step}
+use Rattle.build_model.specs.Steps.{Step, running}
 use Rattle.scons_base.specs.Rising.{Rose}
 use Rattle.turn_means.proofs.Recording.{begins}
 use Rattle.build_means.specs.Rules.{IsReading}
@@ -27,7 +27,10 @@ use Rattle.build_run.specs.Outsets.{wanted_of, BuildRuns, BuildSucceeds, HasMade
 use Rattle.build_run.specs.Safe.{HasOutset}
 use Rattle.build_run.specs.Skips.{AreSkips, BuildSkips, MakesSkipping}
 use Rattle.build_run.specs.Takes.{IsLeftAt}
+use Rattle.build_run.specs.Endings.{EndingsAreCounted}
+use Rattle.build_run.specs.Unrecorded.{BuildCounts}
 use Rattle.build_run.specs.declared.account.Account.{Account}
+use Rattle.build_run.proofs.Unrecorded.{has_counted}
 use Rattle.build_run.proofs.BuildPrinting.{none_printed}
 use Rattle.build_run.proofs.StepTexts.{steps_printed}
 use Rattle.build_run.proofs.EndingOn.{not_before}
@@ -161,6 +164,17 @@ module _ {W : Type 0} (m : Meaning W) (g : RuleGraph) (requested : List NodeId) 
           AreSkips w (map_of mid) (has (told tells) below).left (m.around c) did.made.runs.steps faults skipped) (sym reported) (did.skips (sym same ∙ e)));
     }
 
+    -- and that it counted what didn't end well
+    pub build_counted : (after : Account) (told : m.tells c → m.tells b) (last : Store) (skipped : List (Path × Path)) →
+        MakesSkipping m h run mid b account options c after last skipped →
+        (after.is_store_shut ≡ true → Rose (m.counts a).disk_faults (m.counts c).disk_faults) → StaysKept m c last after → EndingsAreCounted m a c →
+        (answer : BuildEnd) → answer.is_ended ≡ after.is_ended → BuildCounts m g requested options store a last c answer
+    unfolding made build_ran
+    build_counted after told last skipped skips rose stays endings answer same = λ tells sure below.
+        has_counted m w (map_of store) a c (map_of last) answer.is_ended
+        (build_ran after told last (λ t s x r. (skips t s x r).made) rose stays answer same tells sure below)
+        (skips tells sure (o (told tells) below) (ready (told tells) below)).idle endings tells
+
   -- or nothing is made
   abbrev has_refused : (m.tells c → m.tells a) → Leaves m a store c mid (IsLeftAt g (m.around a) (map_of store)) → (answer : BuildEnd) →
       answer.is_ended ≡ true → m.tells c → HasRun m w (map_of store) a c (map_of mid) answer.is_ended
@@ -208,6 +222,15 @@ module _ {W : Type 0} (m : Meaning W) (g : RuleGraph) (requested : List NodeId) 
     run = build_refused back leaves answer ended tells sure below;
     skips = λ e. true_false (sym ended ∙ e);
   }
+
+  pub refused_counts : (m.tells c → m.tells a) → Leaves m a store c mid (IsLeftAt g (m.around a) (map_of store)) → EndingsAreCounted m a c →
+      (answer : BuildEnd) → answer.is_ended ≡ true → BuildCounts m g requested options store a mid c answer
+  refused_counts back leaves endings answer ended = λ tells sure below.
+      let left = leaves tells (rest (back tells)) in
+      let none = left.running ∙ rest (back tells) in
+      let ran = did w (map_of mid) (m.counts a) (m.around c) (m.around c) [] [] read (begin w (map_of mid) (m.counts a) (m.around c) none) in
+      has_counted m w (map_of store) a c (map_of mid) answer.is_ended (has_refused back leaves answer ended tells)
+      (ap running ran.1) endings tells
 
   pub refused_untold : (after : Account) → is_faulted after ≡ true → (answer : BuildEnd) →
       (answer.faults ≡ [] → answer.memory ≡ false → is_faulted after ≡ false) → BuildSucceeds m w (map_of store) a c (map_of mid) answer

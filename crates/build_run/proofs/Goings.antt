@@ -7,6 +7,7 @@ use Rattle.std.proofs.lemmas.List.Elements.{Contains-get_or}
 use Rattle.std.proofs.lemmas.Slice.Eq.{bytes_eq-Decides}
 use Rattle.world_api.specs.Around.{Around, Running, IsUnused, IsRunningTarget, given_of}
 use Rattle.world_api.specs.Calls.{CanStart, Starts, Ends}
+use Rattle.world_api.specs.Causes.{Later}
 use Rattle.world_api.specs.Meaning.{Meaning, Told}
 use Rattle.world_api.specs.declared.job.Job.{Job}
 use Rattle.world_api.specs.declared.job.Ended.{Ended}
@@ -14,18 +15,24 @@ use Rattle.world_api.proofs.Moments.{tells_on}
 use Rattle.build_run.specs.Goings.{Passes, Goes, Stays, IsJoined, Leaves}
 use Rattle.build_run.specs.Holds.{hold_for, hold_of, holds_of, without, KeepsApart, AreApart}
 use Rattle.build_run.specs.declared.tickets.Hold.{Hold}
+use Rattle.build_run.proofs.Endings.{counted_on, none_ended}
 use Rattle.build_run.proofs.Holding.{apart_push, apart_without, without_middle}
 
 pub told_here : {W : Type 0} (m : Meaning W) (w : W) → Told m w w
 told_here m w = record { told = λ t. t; sure = λ t s. s; closed = refl }
 
 pub passes_here : {W : Type 0} (m : Meaning W) (w : W) → Passes m w w
-passes_here m w = record { told = told_here m w; later = record { disk = omega arith; tree = omega arith; start = omega arith; action = omega arith } }
+passes_here m w =
+    let later : Later (m.counts w) (m.counts w) = record { disk = omega arith; tree = omega arith; start = omega arith; action = omega arith } in
+    record { told = told_here m w; later = later; endings = none_ended m w w later (λ t. refl) }
 
 pub passes_on : {W : Type 0} (m : Meaning W) (old mid new : W) → Passes m old mid → Passes m mid new → Passes m old new
 passes_on m old mid new p q = record {
   told = tells_on m old mid new p.told q.told;
   later = let a = p.later in let b = q.later in record { disk = omega arith; tree = omega arith; start = omega arith; action = omega arith };
+  endings = λ t.
+      counted_on (m.counts old) (m.counts mid) (m.counts new) (m.around old).log (m.around mid).log (m.around new).log
+      (p.endings (q.told.told t)) (q.endings t);
 }
 
 pub goes_here : {W : Type 0} (m : Meaning W) (w : W) → Goes m w w

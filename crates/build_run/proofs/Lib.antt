@@ -4,8 +4,9 @@ mod Scanning
 mod Alongs
 mod Clearing
 pub mod Holding
-pub mod Goings
 pub mod Counting
+mod Endings
+pub mod Goings
 pub mod Causing
 pub mod Outs
 pub mod Sites
@@ -22,6 +23,7 @@ mod Outsetting
 mod Finishing
 pub mod Noting
 mod Skipping
+mod Unrecorded
 mod Builds
 mod Safely
 mod Stopping

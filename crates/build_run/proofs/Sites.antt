@@ -20,6 +20,7 @@ use Rattle.build_run.specs.Sites.{IsCleared, IsSame, IsSound, IsSoundWith, IsSto
 use Rattle.build_run.specs.Withdrawals.{AreWithdrawn}
 use Rattle.build_run.specs.declared.building.Options.{Options}
 use Rattle.build_run.specs.declared.site.Site.{Site}
+use Rattle.build_run.proofs.Endings.{none_ended}
 use Rattle.build_run.proofs.Goings.{joined_on, passes_here, passes_on}
 use Rattle.build_run.proofs.Outs.{both_same, stored_alike, stored_first, stored_over}
 
@@ -59,7 +60,10 @@ later_disk a b f = let up = f.rose.later in record { disk = up; tree = omega (ar
 
 -- a call on the store
 pub goes_by : {W : Type 0} (m : Meaning W) (old new : W) → Told m old new → (m.tells new → m.around new ≡ m.around old) → Later (m.counts old) (m.counts new) → Goes m old new
-goes_by m old new told around later = record { passes = record { told = told; later = later }; runs = λ t. ap (λ (a : Around). a.running) (around t) }
+goes_by m old new told around later = record {
+  passes = record { told = told; later = later; endings = none_ended m old new later (λ t. ap (λ (a : Around). a.log) (around t)) };
+  runs = λ t. ap (λ (a : Around). a.running) (around t);
+}
 
 -- calls that neither write a bank nor start or end a job
 pub sound_still : {W O E : Type 0} (m : Meaning W) (old new : Site W O E) → Stays m old.world.now new.world.now → new.store.now ≡ old.store.now → new.run.now.held ≡ old.run.now.held → new.run.now.tickets ≡ old.run.now.tickets → new.options ≡ old.options
@@ -119,7 +123,12 @@ sound_refused P m (Err end) job old new is same s = record {
 -- a look
 pub looked_at : {W T : Type 0} (m : Meaning W) (old new : W) (r : Result T ListEnd) → Looks m old new → HasLookCause (m.counts old) (m.counts new) r → Stays m old new
 looked_at m old new r looks cause = record {
-  goes = record { passes = record { told = looks.told; later = later_looked (m.counts old) (m.counts new) r cause }; runs = λ t. (looks.around t).running };
+  goes = record {
+    passes =
+        let later = later_looked (m.counts old) (m.counts new) r cause in
+        record { told = looks.told; later = later; endings = none_ended m old new later (λ t. (looks.around t).log) };
+    runs = λ t. (looks.around t).running;
+  };
   banks = looks.banks;
 }
 

@@ -30,7 +30,7 @@ use Rattle.task_plan.proofs.RestLemmas.{place_in}
 use Rattle.build_model.specs.Moments.{Job as Given}
 use Rattle.build_model.specs.Resting.{IsFaulty}
 use Rattle.build_model.specs.Rules.{Path, Rule, Among, here}
-use Rattle.build_model.specs.Steps.{Step, settled}
+use Rattle.build_model.specs.Steps.{Step, running, settled}
 use Rattle.build_model.proofs.Lists.{true_false, some_same}
 use Rattle.build_model.proofs.Resting.{faulty_unsettled}
 use Rattle.build_means.specs.Grown.{Begun, rule_numbered}
@@ -430,6 +430,9 @@ module _ {W O E : Type 0} (m : Meaning W) (o : Outset) (outset : IsOutset o) (mi
   pub has_skipped : HasMadeSkipping o (m.around mid.world.now) after behind pairs
   has_skipped = record {
     made = has_made m o outset mid after there rest still ends finishes law none shut behind same;
+    idle =
+        ap running (made_steps m o outset mid after there rest still ends finishes law none shut behind same)
+        ∙ there.on.at.way.count ∙ ap length rest;
     skips = λ e.
         subst (λ (l : List Step). AreSkips o.wanted o.kept o.before (m.around mid.world.now) l after.faults.items pairs)
         (sym (made_steps m o outset mid after there rest still ends finishes law none shut behind same)) (skipped_well e);

@@ -8,12 +8,14 @@ use Rattle.world_api.specs.Meaning.{Meaning, Told, BanksKept}
 use Rattle.world_api.specs.declared.job.Job.{Job}
 use Rattle.run_means.specs.Clears.{Clears}
 use Rattle.build_run.specs.declared.tickets.Hold.{Hold}
+use Rattle.build_run.specs.Endings.{EndingsAreCounted}
 use Rattle.build_run.specs.Holds.{holds_of, AreApart}
 
--- any calls: who tells now told before, no directory was closed, and no count fell
+-- any calls: who tells now told before, no directory was closed, no count fell, and endings were counted
 pub record Passes {W : Type 0} (m : Meaning W) (old new : W) : Type 0 where
   pub told : Told m old new
   pub later : Later (m.counts old) (m.counts new)
+  pub endings : EndingsAreCounted m old new
 
 -- calls that neither start a job nor wait for one
 pub record Goes {W : Type 0} (m : Meaning W) (old new : W) : Type 0 where

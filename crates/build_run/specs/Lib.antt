@@ -2,6 +2,7 @@ pub mod Along
 pub mod Books
 pub mod Causes
 pub mod Counting
+pub mod Endings
 pub mod Firsts
 pub mod Goings
 pub mod Holds
@@ -18,5 +19,6 @@ pub mod Shown
 pub mod Sites
 pub mod Skips
 pub mod Takes
+pub mod Unrecorded
 pub mod Withdrawals
 pub mod Whys

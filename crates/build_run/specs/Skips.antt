@@ -21,7 +21,7 @@ use Rattle.task_plan.specs.States.{is_faulty, state_of}
 use Rattle.build_model.specs.Needs.{Found, Needed, NeedsThrough}
 use Rattle.build_model.specs.Resting.{IsFaulty, IsUntouched, whole_found}
 use Rattle.build_model.specs.Rules.{Path, Rule}
-use Rattle.build_model.specs.Steps.{Step}
+use Rattle.build_model.specs.Steps.{Step, running}
 use Rattle.build_means.specs.Builds.{Wanted, Kept, setting_in, build_in}
 use Rattle.build_run.specs.Firsts.{first_target_of}
 use Rattle.turn_means.specs.Standing.{Outset}
@@ -127,9 +127,10 @@ pub record AreSkips (w : Wanted) (kept : Kept) (before after : Around) (steps : 
   pub all : (r q : Rule) → IsNeededBy w kept before after steps r → NeedsBy w kept before after steps r q → IsFaulty steps q →
       IsFaulty steps r ⊎ (NeedsBy w kept before after steps r r ⊎ HasPair pairs r)
 
--- What a build did, and that it skipped what it says, unless an end came.
+-- What a build did, that none of its actions runs any more, and that it skipped what it says, unless an end came.
 pub record HasMadeSkipping (o : Outset) (around : Around) (account : Account) (behind : Map) (skipped : List (Path × Path)) : Type 0 where
   pub made : HasMade o around account behind
+  pub idle : running made.runs.steps ≡ 0
   pub skips : account.is_ended ≡ false → AreSkips o.wanted o.kept o.before around made.runs.steps account.faults.items skipped
 
 abbrev pub MakesSkipping : {W : Type 0} → Meaning W → RuleGraph → Run → Store → W → Account → Options → W → Account → Store → List (Path × Path) → Type 0

@@ -20,6 +20,7 @@ ghost use Rattle.build_run.specs.Safe.{BuildsSafely, GoesSafely, MakesSafely};
 ghost use Rattle.build_run.specs.Sites.{IsSame, SiteAccounts, most_jobs};
 ghost use Rattle.build_run.specs.Skips.{AreAtFault, AreHeldPairs, AreNamed, BuildSkips, HasHeldPairs, HoldsNeedy, MakesSkipping, TakesFaulty};
 ghost use Rattle.build_run.specs.Takes.{HasTakeCause};
+ghost use Rattle.build_run.specs.Unrecorded.{BuildCounts};
 
 use crate::account::Account;
 use crate::end::BuildEnd;
@@ -86,6 +87,7 @@ pub fn build<W: World, O: Sink, E: Sink>(
     ensures runs { RunsOver W.meaning graph.old requested.now options.now store.old world.old store.new world.new result }
     ensures succeeds { SucceedsOver W.meaning graph.old requested.now options.now store.old world.old store.new world.new result }
     ensures skips { BuildSkips W.meaning graph.old requested.now options.now store.old world.old store.new world.new result }
+    ensures counts { BuildCounts W.meaning graph.old requested.now options.now store.old world.old store.new world.new result }
     ensures safe { BuildsSafely W.meaning (wanted_of graph.old requested.now options.now) world.old world.new }
     ensures ends { EndsForReason options.now result }
     ensures tells { BuildTells E.meaning err.old err.new result }

@@ -2,6 +2,7 @@ use Rattle.std.proofs.Common.{subst, sym}
 use Rattle.world_api.specs.Causes.{Later}
 use Rattle.world_api.specs.Counts.{Counts}
 use Rattle.build_files.proofs.Marking.{over_none}
+use Rattle.build_run.proofs.Endings.{none_ended}
 use Rattle.build_run.proofs.Goings.{passes_here}
 use Rattle.build_run.proofs.Outsetting.{sets_out}
 use Rattle.build_run.proofs.building.begin.Goals as goal
@@ -11,12 +12,10 @@ returns-in_err-new-clause-stays g c =
     let m = g.W.Disk.meaning in
     let looks = c.add_copies.ensures.looks in
     let was = m.counts c.args.world.now in
+    let later = subst (λ (counts : Counts). Later was counts) (sym c.in_ok-add_copies.ensures.cause) (passes_here m c.args.world.now).later in
     record {
       goes = record {
-        passes = record {
-          told = looks.told;
-          later = subst (λ (counts : Counts). Later was counts) (sym c.in_ok-add_copies.ensures.cause) (passes_here m c.args.world.now).later;
-        };
+        passes = record { told = looks.told; later = later; endings = none_ended m c.args.world.now c.add_copies.new.world later (λ t. (looks.around t).log) };
         runs = λ tells. (looks.around tells).running;
       };
       banks = looks.banks;
@@ -27,12 +26,10 @@ returns-in_err-new-2-clause-stays g c =
     let m = g.W.Disk.meaning in
     let looks = c.add_copies.ensures.looks in
     let was = m.counts c.args.world.now in
+    let later = subst (λ (counts : Counts). Later was counts) (sym c.in_ok-add_copies.ensures.cause) (passes_here m c.args.world.now).later in
     record {
       goes = record {
-        passes = record {
-          told = looks.told;
-          later = subst (λ (counts : Counts). Later was counts) (sym c.in_ok-add_copies.ensures.cause) (passes_here m c.args.world.now).later;
-        };
+        passes = record { told = looks.told; later = later; endings = none_ended m c.args.world.now c.add_copies.new.world later (λ t. (looks.around t).log) };
         runs = λ tells. (looks.around tells).running;
       };
       banks = looks.banks;
@@ -43,12 +40,10 @@ returns-in_err-plan-clause-stays g c =
     let m = g.W.Disk.meaning in
     let looks = c.add_copies.ensures.looks in
     let was = m.counts c.args.world.now in
+    let later = subst (λ (counts : Counts). Later was counts) (sym c.in_ok-add_copies.ensures.cause) (passes_here m c.args.world.now).later in
     record {
       goes = record {
-        passes = record {
-          told = looks.told;
-          later = subst (λ (counts : Counts). Later was counts) (sym c.in_ok-add_copies.ensures.cause) (passes_here m c.args.world.now).later;
-        };
+        passes = record { told = looks.told; later = later; endings = none_ended m c.args.world.now c.add_copies.new.world later (λ t. (looks.around t).log) };
         runs = λ tells. (looks.around tells).running;
       };
       banks = looks.banks;

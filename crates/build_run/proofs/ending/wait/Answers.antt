@@ -1,3 +1,4 @@
+use Rattle.build_run.proofs.Endings.{ended_one, later_ended}
 use Rattle.build_run.proofs.Safely.{safe_ended}
 use Rattle.std.proofs.Common.{◌<◌, arith, length}
 use Rattle.build_run.specs.Holds.{holds_in}
@@ -9,6 +10,12 @@ pub wait-requires : goal.wait-requires
 wait-requires g c = λ told.
     let some : 0 < length (holds_in c.args.run.now.tickets) = omega (arith, held_count c.args.run.now.tickets, c.requires.some) in
     some_runs g.W.Disk.meaning c.args.world.now (holds_in c.args.run.now.tickets) c.requires.joined some told
+
+pub returns-clause-passes : goal.returns-clause-passes
+returns-clause-passes g c =
+    let is = c.wait.ensures in
+    let later = later_ended c.wait.result.outcome _ _ is.cause in
+    record { told = is.told; later = later; endings = λ t. ended_one _ _ _ _ c.wait.result.id c.wait.result.outcome later is.cause (is.around t).log }
 
 pub returns-clause-joined : goal.returns-clause-joined
 returns-clause-joined g c = joined_ended g.W.Disk.meaning c.args.world.now c.wait.new.self (holds_in c.args.run.now.tickets) c.wait.result c.wait.ensures.told.told c.wait.ensures.around c.requires.joined

@@ -1,3 +1,4 @@
+use Rattle.build_run.proofs.Endings.{later_start, later_still, none_ended, started_one}
 use Rattle.build_run.proofs.Safely.{safe_asked, safe_started}
 use Rattle.build_run.proofs.Stopping.{none_kept}
 use Rattle.std.proofs.Common.{[]}
@@ -9,6 +10,34 @@ use Rattle.build_run.proofs.launch.begin.Goals as goal
 
 pub start-requires-clause-free : goal.start-requires-clause-free
 start-requires-clause-free g c = λ t. can_start c.args.job (g.W.Disk.meaning.around c.args.world.now) (holds_in c.args.run.now.tickets) (c.requires.joined.runs t) c.requires.apart (c.requires.clear t)
+
+pub returns-in-Ok-clause-passes : goal.returns-in-Ok-clause-passes
+returns-in-Ok-clause-passes g c =
+    let m = g.W.Disk.meaning in
+    let later = later_still _ _ (c.in-Ok.ensures.kept (λ e. cc e)) in
+    record {
+      told = c.start.ensures.told;
+      later = later;
+      endings = λ t. started_one _ _ _ _ c.args.job (m.counts c.args.world.now) later (c.in-Ok.ensures.started t).log;
+    }
+
+pub returns-in-Err-Fault-clause-passes : goal.returns-in-Err-Fault-clause-passes
+returns-in-Err-Fault-clause-passes g c =
+    let later = later_start _ _ (c.in-Err-Fault.ensures.rose (cc c.in-Err-Fault.field-0-is)) in
+    record {
+      told = c.start.ensures.told;
+      later = later;
+      endings = none_ended g.W.Disk.meaning c.args.world.now c.start.new.self later (λ t. (c.in-Err-Fault.ensures.refused t).log);
+    }
+
+pub returns-in-Err-Memory-clause-passes : goal.returns-in-Err-Memory-clause-passes
+returns-in-Err-Memory-clause-passes g c =
+    let later = later_still _ _ (c.in-Err-Memory.ensures.kept (λ e. cc (e, c.in-Err-Memory.field-0-is))) in
+    record {
+      told = c.start.ensures.told;
+      later = later;
+      endings = none_ended g.W.Disk.meaning c.args.world.now c.start.new.self later (λ t. (c.in-Err-Memory.ensures.refused t).log);
+    }
 
 pub returns-in-Ok-clause-started : goal.returns-in-Ok-clause-started
 returns-in-Ok-clause-started g c = joined_started g.W.Disk.meaning c.args.world.now c.start.new.self (holds_in c.args.run.now.tickets) c.args.job c.start.ensures.told.told (λ t. c.in-Ok.ensures.started t) c.requires.apart c.requires.joined
