@@ -92,11 +92,6 @@ module _ (plan : Planned) where
   pub one_at_fault : (rule : RuleId) → is_faulty_state (state_of plan.states rule.0) ≡ true → AreAtFault plan (rule ∷ [])
   one_at_fault rule e = record { each = λ number h. IsAtFault.by_state (ap (λ n. is_faulty_state (state_of plan.states n)) (one_of rule number h) ∙ e) }
 
-  -- further rules, as a list is extended or not
-  pub extended_at_fault : (c : Bool) (rules more now : List RuleId) → now ≡ (if c then rules ++ more else rules) → AreAtFault plan rules → AreAtFault plan more → AreAtFault plan now
-  extended_at_fault true rules more now e a b = subst (AreAtFault plan) (sym e) (more_at_fault rules more a b)
-  extended_at_fault false rules more now e a b = subst (AreAtFault plan) (sym e) a
-
   -- those that are taken over one by one
   pub takes_none : (noted : List RuleId) → noted ≡ [] → (rules : List RuleId) → TakesFaulty plan noted rules
   takes_none noted none rules rule h e = true_false (sym h ∙ ap (is_among rule) none)
@@ -111,9 +106,8 @@ module _ (plan : Planned) where
       ⊎_elim (λ k. t rule k e) (λ k. true_false (sym e ∙ ap (λ n. is_faulty_state (state_of plan.states n)) (one_of next rule k) ∙ well))
       (or_either (is_among rule noted) (is_among rule (next ∷ [])) (sym (list_any-append (λ r. nat_eq r.0 rule) noted (next ∷ [])) ∙ h))
 
-  pub taken_behind : (noted rules more now : List RuleId) (c : Bool) → now ≡ (if c then rules ++ more else rules) → TakesFaulty plan noted rules → TakesFaulty plan noted now
-  taken_behind noted rules more now true e t rule h f = ap (is_among rule) e ∙ among_front rules more rule (t rule h f)
-  taken_behind noted rules more now false e t rule h f = ap (is_among rule) e ∙ t rule h f
+  pub taken_behind : (noted rules more : List RuleId) → TakesFaulty plan noted rules → TakesFaulty plan noted (rules ++ more)
+  taken_behind noted rules more t rule h f = among_front rules more rule (t rule h f)
 
 -- ---- pairs of paths
 
@@ -124,9 +118,9 @@ module _ (g : RuleGraph) (held : List (RuleId × RuleId)) where
     each = λ n paths e. absurd (none-some paths (ap (λ (l : List (Path × Path)). slice_get l n) (sym none) ∙ e));
   }
 
-  pub one_named : (count : ℕ) (d : RuleId × RuleId) (pairs now : List (Path × Path)) (paths : Path × Path) → count < length held → AreNamed g (get_or held count d) paths →
-      now ≡ pairs ++ paths ∷ [] → AreNamedTo g held count pairs → AreNamedTo g held (count + 1) now
-  one_named count d pairs now paths lt named is a = record {
+  pub one_named : (count : ℕ) (pair : RuleId × RuleId) (pairs now : List (Path × Path)) (paths : Path × Path) → count < length held → pair ≡ get_or held count pair →
+      AreNamed g pair paths → now ≡ pairs ++ paths ∷ [] → AreNamedTo g held count pairs → AreNamedTo g held (count + 1) now
+  one_named count pair pairs now paths lt this named is a = record {
     size = ap length is ∙ length-append pairs (paths ∷ []) ∙ ap (λ n. n + 1) a.size;
     each = λ n other e.
         let there : slice_get (pairs ++ paths ∷ []) n ≡ Some other = ap (λ (l : List (Path × Path)). slice_get l n) (sym is) ∙ e in
@@ -155,7 +149,8 @@ module _ (g : RuleGraph) (held : List (RuleId × RuleId)) where
       by n other e (inl lt) = a.each n other (front n other e lt)
       by n other e (inr le) =
           let k = last n other e le in
-          (get_or held count d, ap (slice_get held) k.0 ∙ slice_get-get_or held count d lt, subst (λ (x : Path × Path). AreNamed g (get_or held count d) x) (sym k.1) named)
+          (pair, ap (slice_get held) k.0 ∙ slice_get-get_or held count pair lt ∙ ap (λ (p : RuleId × RuleId). Some p) (sym this),
+          subst (λ (x : Path × Path). AreNamed g pair x) (sym k.1) named)
 
   -- all were
   pub held_named : (plan : Planned) (noted faulty : List RuleId) → AreAtFault plan faulty → TakesFaulty plan noted faulty →
@@ -254,37 +249,38 @@ named_first b g now number r path is h =
     subst (λ (x : Rule). slice_get x.targets 0 ≡ Some path) (some_same (sym named.is ∙ is))
     (ap (λ (l : List Path). slice_get l 0) (sym named.names.targets) ∙ first)
 
+-- a node of this path is the first target of the rule with this number
+record HasFirst (g : RuleGraph) (path : Path) (number : ℕ) : Type 0 where
+  of : declared.Rule
+  at : slice_get g.rules number ≡ Some of
+  node : NodeId
+  target : is_target_of of.targets node.0 ≡ true
+  stands : slice_get g.nodes node.0 ≡ Some path
+
 -- a graph has one rule with this first target
 one_first : (g : RuleGraph) → IsReading g → (n m : ℕ) (path : Path) → first_target_of g n ≡ Some path → first_target_of g m ≡ Some path → n ≡ m
 one_first g reading n m path e f =
     let one = first_node n e in
     let two = first_node m f in
-    let same : one.node.0 ≡ two.node.0 = some_same (sym (reading.apart one.node.0 path one.path) ∙ reading.apart two.node.0 path two.path) in
+    let same : one.node.0 ≡ two.node.0 = some_same (sym (reading.apart one.node.0 path one.stands) ∙ reading.apart two.node.0 path two.stands) in
     some_same (sym (reading.single n one.node.0 one.of one.at one.target)
     ∙ reading.single m one.node.0 two.of two.at (ap (is_target_of two.of.targets) same ∙ two.target))
   where
-    record HasFirst (number : ℕ) : Type 0 where
-      of : declared.Rule
-      at : slice_get g.rules number ≡ Some of
-      node : NodeId
-      target : is_target_of of.targets node.0 ≡ true
-      path : slice_get g.nodes node.0 ≡ Some path
-
-    first_node : (number : ℕ) → first_target_of g number ≡ Some path → HasFirst number
+    first_node : (number : ℕ) → first_target_of g number ≡ Some path → HasFirst g path number
     first_node number h = by (slice_get g.rules number) refl h
       where
         by : (o : Option declared.Rule) → slice_get g.rules number ≡ o →
-            option_and_then (λ r. option_and_then (λ n. slice_get g.nodes n.0) (slice_get r.targets 0)) o ≡ Some path → HasFirst number
+            option_and_then (λ r. option_and_then (λ n. slice_get g.nodes n.0) (slice_get r.targets 0)) o ≡ Some path → HasFirst g path number
         by None e h = absurd (none-some path h)
         by (Some r) e h = in_targets r.targets refl h
           where
-            in_targets : (targets : List NodeId) → r.targets ≡ targets → option_and_then (λ n. slice_get g.nodes n.0) (slice_get targets 0) ≡ Some path → HasFirst number
-            in_targets [] are k = absurd (none-some path k)
-            in_targets (n ∷ targets) are k =
-                record { of = r; at = e; node = n; target = ap (λ (l : List NodeId). is_target_of l n.0) are ∙ is_here n targets; path = k }
-
             is_here : (n : NodeId) (targets : List NodeId) → is_target_of (n ∷ targets) n.0 ≡ true
             is_here n targets = there_any (λ (t : NodeId). nat_eq t.0 n.0) (let m : Among n (n ∷ targets) = here in m) ((Decides-eqb n.0 n.0).1 refl)
+
+            in_targets : (targets : List NodeId) → r.targets ≡ targets → option_and_then (λ n. slice_get g.nodes n.0) (slice_get targets 0) ≡ Some path → HasFirst g path number
+            in_targets [] are k = absurd (none-some path k)
+            in_targets (n ∷ targets) are k =
+                record { of = r; at = e; node = n; target = ap (λ (l : List NodeId). is_target_of l n.0) are ∙ is_here n targets; stands = k }
 
 -- ---- by steps
 

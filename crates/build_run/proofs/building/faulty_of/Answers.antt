@@ -14,7 +14,7 @@ loop-rule-init c = record {
 pub loop-rule-preserved : goal.loop-rule-preserved
 loop-rule-preserved c =
     let i = c.loop-rule.invariant in
-    let k = c.in_ok-add_faulty.ensures {u = tt} in
+    let k = c.in_ok-add_faulty.ensures in
     record {
       at_fault = k.at_fault i.at_fault;
       takes =
@@ -24,12 +24,12 @@ loop-rule-preserved c =
 
 pub returns-clause-at_fault : goal.returns-clause-at_fault
 returns-clause-at_fault c =
-    subst (λ (rules : List RuleId). AreAtFault c.args.plan.now rules) (sym (c.in_ok-extend_from_slice.ensures {u = tt}).items)
+    subst (λ (rules : List RuleId). AreAtFault c.args.plan.now rules) (sym c.in_ok-extend_from_slice.ensures.items)
     (more_at_fault c.args.plan.now c.loop-rule.faulty.items c.args.cycle.now c.loop-rule.invariant.at_fault c.requires)
 
 pub returns-clause-takes : goal.returns-clause-takes
 returns-clause-takes c =
     let noted = subst (λ (rules : List RuleId). TakesFaulty c.args.plan.now rules c.loop-rule.faulty.items)
     (take_all c.loop-rule.rule-index c.args.noted.now (omega arith)) c.loop-rule.invariant.takes in
-    taken_behind c.args.plan.now c.args.noted.now c.loop-rule.faulty.items c.args.cycle.now c.extend_from_slice.new.self.items true
-    (c.in_ok-extend_from_slice.ensures {u = tt}).items noted
+    subst (λ (rules : List RuleId). TakesFaulty c.args.plan.now c.args.noted.now rules) (sym c.in_ok-extend_from_slice.ensures.items)
+    (taken_behind c.args.plan.now c.args.noted.now c.loop-rule.faulty.items c.args.cycle.now noted)

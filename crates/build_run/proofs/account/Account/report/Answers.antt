@@ -8,3 +8,9 @@ returns-clause-texts g c = λ start has.
     reported e start c.args.err.now c.show.new.err c.args.self.now c.keep.new.self c.show.new.self c.args.fault c.keep.ensures.adds has
     (shows_this e (λ s. string_bytes s) c.args.err.now c.show.new.err c.keep.new.self c.show.new.self c.fault_text-text.result _
     c.fault_text-text.ensures c.show.ensures.shows)
+
+pub returns-clause-noted : goal.returns-clause-noted
+returns-clause-noted g c = λ graph rule n. c.show.ensures.noted graph rule (c.keep.ensures.noted graph rule n)
+
+pub returns-clause-kept : goal.returns-clause-kept
+returns-clause-kept g c = c.show.ensures.faults c.args.fault c.keep.ensures.kept
