@@ -3,6 +3,7 @@ pub mod Causes
 pub mod Copying
 pub mod Dueness
 pub mod Ends
+pub mod Firsts
 pub mod Kept
 pub mod Leftovers
 pub mod Marked

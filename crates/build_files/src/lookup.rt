@@ -1,6 +1,7 @@
 //! Nodes and rules by their numbers.
 ghost use Rattle.std.specs.Prelude.{◌≡◌, ◌<◌, Some, length, slice_get, IfOk};
 ghost use Rattle.rule_graph.specs.Rules.{IsRule};
+ghost use Rattle.build_files.specs.Firsts.{first_target_of};
 
 use rule_graph::{Graph, Rule};
 use scons_base::{Memory, NodeId, PathText, RuleId};
@@ -31,7 +32,9 @@ pub fn rule_at(graph: &Graph, rule: RuleId) -> Result<&Rule, Memory>
 }
 
 /// The path of the first target of a rule, as it is named in faults.
-pub fn first_target(graph: &Graph, rule: RuleId) -> Result<PathText, Memory> {
+pub fn first_target(graph: &Graph, rule: RuleId) -> Result<PathText, Memory>
+    ensures { IfOk result (λ path. first_target_of graph.now rule.0 ≡ Some path) }
+{
     match rule_at(graph, rule)?.targets.as_slice().first() {
         Some(target) => path_of(graph, *target)?.copy(),
         None => Err(Memory),

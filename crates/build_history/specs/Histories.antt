@@ -9,10 +9,9 @@ use Rattle.world_mem.specs.Means.{around_in, seen_in, world_meaning}
 use Rattle.world_mem.specs.declared.world.MemWorld.{MemWorld}
 use Rattle.sign_store.specs.Ends.{image_in}
 use Rattle.sign_store.specs.Tables.{Map, nothing}
-use Rattle.build_model.specs.Headline.{IsBuilt}
 use Rattle.build_model.specs.Rules.{Setting}
-use Rattle.build_means.specs.Builds.{Wanted, build_in, graph_in}
-use Rattle.build_run.specs.Outsets.{GoesByContent, HasSucceeded}
+use Rattle.build_means.specs.Builds.{Wanted}
+use Rattle.build_run.specs.Outsets.{GoesByContent, HasSucceeded, IsCleanly}
 use Rattle.build_run.specs.Safe.{IsOfLaw}
 use Rattle.build_run.specs.Truth.{TellsTruth}
 use Rattle.scons_words.specs.Readings.{read}
@@ -38,17 +37,16 @@ HasNoRecords world = (banks : Banks) → IsImage world_meaning world banks → i
 
 -- ---- the headline
 
--- A build left what a build from sources alone leaves, and started just what was needed and stale, each once, where it went by
--- content.
-abbrev pub IsCleanly : (w : Wanted) (map : Map) (old new : MemWorld) (behind : Map) → HasSucceeded world_meaning w map old new behind → Type 0
-IsCleanly w map old new behind did = GoesByContent w did.kept did.left (around_in new) →
-    IsBuilt (graph_in w did.left) (build_in w did.kept did.left (around_in new)) did.succeeded.runs.steps
+-- a build ended as the clean one does, where it went by content
+abbrev pub EndsByContent : (w : Wanted) (map : Map) (old new : MemWorld) (behind : Map) → HasSucceeded world_meaning w map old new behind → Type 0
+EndsByContent w map old new behind did = GoesByContent w did.kept did.left (around_in new) →
+    IsCleanly w did.kept did.left (around_in new) did.succeeded.runs.steps
 
 -- a run built so, where it answers status 0
 pub record IsClean (said : Words) (old new : MemWorld) (status : ℕ) : Type 0 where
   pub built : HasBuilt world_meaning said old new status
   pub clean : (zero : status ≡ 0) →
-      IsCleanly (wanted_by said built.graph built.requested) (image_in (seen_in old)) old new built.kept (built.succeeds zero)
+      EndsByContent (wanted_by said built.graph built.requested) (image_in (seen_in old)) old new built.kept (built.succeeds zero)
 
 -- so does each that these words ask for, in a history from a world that tells the truth
 abbrev pub EndsClean : MemWorld → List (List ℕ) → MemWorld → MemWorld → Report → Type 0

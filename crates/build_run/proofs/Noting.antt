@@ -23,7 +23,7 @@ use Rattle.build_model.specs.Rules.{Path}
 use Rattle.build_model.proofs.Lists.{true_false}
 use Rattle.build_means.proofs.Lists.{or_first, or_second}
 use Rattle.task_plan.proofs.ListLemmas.{get-front}
-use Rattle.build_run.specs.Firsts.{first_target_of}
+use Rattle.build_files.specs.Firsts.{first_target_of}
 use Rattle.build_files.specs.Searched.{GrowsTo}
 use Rattle.build_files.specs.declared.end.ListEnd.{ListEnd}
 use Rattle.build_run.specs.Along.{StepsOr, Tells}

@@ -36,7 +36,7 @@ use Rattle.build_model.proofs.Resting.{faulty_unsettled}
 use Rattle.build_means.specs.Grown.{Begun, rule_numbered}
 use Rattle.build_means.specs.Rules.{IsReading, paths_of}
 use Rattle.build_means.proofs.Lists.{or_either, there_any}
-use Rattle.build_run.specs.Firsts.{first_target_of}
+use Rattle.build_files.specs.Firsts.{first_target_of}
 use Rattle.plan_means.specs.Deciding.{IsTied}
 use Rattle.plan_means.specs.Holding.{HasFault, NeedsItself}
 use Rattle.plan_means.specs.Planning.{IsGraphNow}

@@ -2,7 +2,6 @@ pub mod Along
 pub mod Books
 pub mod Causes
 pub mod Counting
-pub mod Firsts
 pub mod Goings
 pub mod Holds
 pub mod Ledgers

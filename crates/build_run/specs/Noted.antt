@@ -10,7 +10,7 @@ use Rattle.task_plan.specs.States.{is_faulty, state_of}
 use Rattle.task_plan.specs.declared.want.PlanEvent.{PlanEvent}
 use Rattle.task_plan.specs.declared.want.PlanEvent.TheVariants as told
 use Rattle.build_model.specs.Rules.{Path}
-use Rattle.build_run.specs.Firsts.{first_target_of}
+use Rattle.build_files.specs.Firsts.{first_target_of}
 use Rattle.build_files.specs.declared.end.ListEnd.{ListEnd}
 use Rattle.build_run.specs.Causes.{HasAny}
 use Rattle.build_run.specs.declared.account.Account.{Account}

@@ -22,6 +22,7 @@ use Rattle.build_model.specs.Headline.{IsBuilt, IsNeeded}
 use Rattle.build_model.specs.Laws.{EachStep}
 use Rattle.build_model.specs.Records.{AreDistinct}
 use Rattle.build_model.specs.Rules.{Rule, content}
+use Rattle.build_model.specs.Steps.{Step}
 use Rattle.build_means.specs.Builds.{Wanted, KeepsRecords, Rests, Runs, Succeeded, build_in, graph_in, setting_in}
 use Rattle.build_files.specs.Marked.{AreGoneOver}
 use Rattle.turn_means.specs.Standing.{Outset, IsOutset}
@@ -154,6 +155,14 @@ FinishesWell g plan old new = (old.is_ended ≡ true → is_faulted old ≡ true
 abbrev pub StandFor : {W : Type 0} → Meaning W → W → Map → Type 0
 StandFor m world map = (banks : Banks) → IsImage m world banks → image_in banks ≡ map
 
+-- what a build left and did is what a build from sources alone leaves, and just what was needed and stale was started, each once
+abbrev pub IsCleanly : (w : Wanted) → Map → Around → Around → List Step → Type 0
+IsCleanly w kept left after steps = IsBuilt (graph_in w left) (build_in w kept left after) steps
+
+-- Each step is right by the clean build: what was started was needed and stale, and what was settled is as it is there.
+abbrev pub AreRight : (w : Wanted) → Map → Around → Around → List Step → Type 0
+AreRight w kept left after steps = EachStep (setting_in w left) (build_in w kept left after) (clean_build (graph_in w left) left.tree) steps
+
 -- A build goes by content alone: no two contents that were met have one digest, and no needed rule has another decider.
 pub record GoesByContent (w : Wanted) (kept : Map) (before after : Around) : Type 0 where
   pub distinct : AreDistinct (setting_in w before) after.met
@@ -172,10 +181,9 @@ pub record HasRun {W : Type 0} (m : Meaning W) (w : Wanted) (map : Map) (old new
   pub rests : ended ≡ false → Rests w kept left (m.around new) runs.steps
   -- nor may a stop leave anything of the banks then that stands for other records
   pub stored : ended ≡ false → StandFor m new behind
-  -- Where what stood before told the truth, and by content, each step is right by the clean build: what was started was needed and
-  -- stale, and what was settled is as it is there.
+  -- where what stood before told the truth, and by content
   pub right : TellsTruth m (setting_in w (m.around old)) old → GoesByContent w kept left (m.around new) →
-      EachStep (setting_in w left) (build_in w kept left (m.around new)) (clean_build (graph_in w left) left.tree) runs.steps
+      AreRight w kept left (m.around new) runs.steps
 
 -- What a build did that ended well, and that its steps left these records.
 pub record HasSucceeded {W : Type 0} (m : Meaning W) (w : Wanted) (map : Map) (old new : W) (behind : Map) : Type 0 where
@@ -185,10 +193,9 @@ pub record HasSucceeded {W : Type 0} (m : Meaning W) (w : Wanted) (map : Map) (o
   pub succeeded : Succeeded w kept (m.counts old) left (m.around new)
   pub records : KeepsRecords w kept left (m.around new) succeeded.runs.steps behind
   pub stored : StandFor m new behind
-  -- The incremental build is the clean one. Where what stood before told the truth, and by content, its targets have the bytes of a
-  -- build from sources alone, and just what is needed and stale was started, each once.
+  -- The incremental build is the clean one, where what stood before told the truth, and by content.
   pub clean : TellsTruth m (setting_in w (m.around old)) old → GoesByContent w kept left (m.around new) →
-      IsBuilt (graph_in w left) (build_in w kept left (m.around new)) succeeded.runs.steps
+      IsCleanly w kept left (m.around new) succeeded.runs.steps
 
 -- So builds do, in a world that tells and is sure, where the requested nodes are the graph's.
 abbrev pub BuildRuns : {W : Type 0} → Meaning W → Wanted → Map → W → W → Map → BuildEnd → Type 0

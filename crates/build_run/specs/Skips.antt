@@ -23,7 +23,7 @@ use Rattle.build_model.specs.Resting.{IsFaulty, IsUntouched, whole_found}
 use Rattle.build_model.specs.Rules.{Path, Rule}
 use Rattle.build_model.specs.Steps.{Step}
 use Rattle.build_means.specs.Builds.{Wanted, Kept, setting_in, build_in}
-use Rattle.build_run.specs.Firsts.{first_target_of}
+use Rattle.build_files.specs.Firsts.{first_target_of}
 use Rattle.turn_means.specs.Standing.{Outset}
 use Rattle.build_run.specs.Causes.{HasAny}
 use Rattle.build_run.specs.Noted.{IsOfRule}

@@ -14,9 +14,8 @@ ghost use Rattle.build_run.specs.Shown.{ShowsMade};
 ghost use Rattle.build_run.specs.Sites.{IsSound, KeepsHeld, SiteEnds, SitePasses};
 
 use crate::explain::why_text;
-use crate::names::first_target;
 use crate::site::{Run, Site};
-use build_files::{ListEnd, Present, is_stale, path_of};
+use build_files::{ListEnd, Present, first_target, is_stale, path_of};
 use deciders::Rec;
 use explain_report::least_is_reason;
 use rule_graph::{BuildFault, Graph, What};

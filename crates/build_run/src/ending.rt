@@ -18,11 +18,10 @@ ghost use Rattle.world_api.specs.Meaning.{BanksKept};
 
 use crate::account::Account;
 use crate::building::Options;
-use crate::names::first_target;
 use crate::site::{Run, Site};
 use crate::start::give_up;
 use crate::tickets::Busy;
-use build_files::ListEnd;
+use build_files::{ListEnd, first_target};
 use rule_graph::{BuildFault, Graph};
 use scons_base::RuleId;
 use sign_store::Ticketed;

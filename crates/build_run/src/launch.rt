@@ -21,9 +21,8 @@ ghost use Rattle.sign_store.specs.Stores.{KeepsTickets, map_of};
 ghost use Rattle.world_api.specs.Meaning.{BanksKept};
 
 use crate::account::Account;
-use crate::names::first_target;
 use crate::site::{Run, Site};
-use build_files::ListEnd;
+use build_files::{ListEnd, first_target};
 use rule_graph::{BuildFault, Graph};
 use scons_base::RuleId;
 use sign_store::{Store, Ticket};

@@ -14,7 +14,6 @@ mod ending;
 mod explain;
 mod launch;
 mod leftovers;
-mod names;
 mod site;
 mod start;
 mod tickets;

@@ -17,13 +17,9 @@ use Rattle.rule_graph.specs.Rules.{are_below}
 use Rattle.sign_store.specs.Ends.{image_in}
 use Rattle.sign_store.specs.Images.{image_of}
 use Rattle.sign_store.specs.Tables.{Map}
-use Rattle.build_model.specs.Graphs.{clean_build}
-use Rattle.build_model.specs.Headline.{IsBuilt}
-use Rattle.build_model.specs.Laws.{EachStep}
-use Rattle.build_model.specs.Steps.{Step}
-use Rattle.build_means.specs.Builds.{Wanted, KeepsRecords, Rests, Runs, Succeeded, build_in, graph_in, setting_in}
+use Rattle.build_means.specs.Builds.{Wanted, KeepsRecords, Rests, Runs, Succeeded, setting_in}
 use Rattle.build_files.proofs.Left.{none_runs}
-use Rattle.build_run.specs.Outsets.{GoesByContent, HasRun, HasSucceeded, LeavesRest, StandFor, BuildRuns, BuildSucceeds}
+use Rattle.build_run.specs.Outsets.{AreRight, GoesByContent, HasRun, HasSucceeded, IsCleanly, LeavesRest, StandFor, BuildRuns, BuildSucceeds}
 use Rattle.build_run.specs.Takes.{IsLeftAt}
 use Rattle.build_run.specs.Truth.{TellsTruth}
 use Rattle.build_run.specs.declared.end.BuildEnd.{BuildEnd}
@@ -51,14 +47,6 @@ records_kept m a b kept =
     ap (λ bytes. image_of bytes (m.seen b B)) (kept A).same ∙ ap (λ bytes. image_of (m.seen a A) bytes) (kept B).same
 
 -- what was done, from what was around, the counts and the records
-
--- what a build left and did is what a build from sources alone does
-abbrev IsCleanly : (w : Wanted) → Map → Around → Around → List Step → Type 0
-IsCleanly w kept left after steps = IsBuilt (graph_in w left) (build_in w kept left after) steps
-
--- each step of it is right by that build
-abbrev AreRight : (w : Wanted) → Map → Around → Around → List Step → Type 0
-AreRight w kept left after steps = EachStep (setting_in w left) (build_in w kept left after) (clean_build (graph_in w left) left.tree) steps
 
 record RanFrom {W : Type 0} (m : Meaning W) (w : Wanted) (map : Map) (start : Around) (counts : Counts) (new : W)
     (behind : Map) (ended : Bool) (truth : Type 0) : Type 0 where
