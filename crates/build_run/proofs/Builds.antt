@@ -11,7 +11,6 @@ use Rattle.world_api.specs.declared.hash.Hash.{Hash}
 use Rattle.rule_graph.specs.Graphs.{RuleGraph}
 use Rattle.rule_graph.specs.declared.build_fault.BuildFault.{BuildFault}
 use Rattle.rule_graph.specs.Rules.{are_below}
-use Rattle.sign_store.specs.Ends.{image_in}
 use Rattle.sign_store.specs.Stores.{IsKept, map_of}
 use Rattle.sign_store.specs.Tables.{Map}
 use Rattle.sign_store.specs.declared.store.Store.{Store}
@@ -25,12 +24,12 @@ use Rattle.build_model.specs.Graphs.{clean_build}
 use Rattle.build_model.specs.Laws.{EachStep}
 use Rattle.build_model.specs.Records.{AreSound}
 use Rattle.build_model.specs.Rules.{Among, Bytes, Path, Setting}
-use Rattle.build_model.specs.Steps.{Build, Step}
+use Rattle.build_model.specs.Steps.{Build, Step, running}
 use Rattle.build_model.proofs.Histories.{sound_too}
 use Rattle.scons_base.specs.Rising.{Rose}
 use Rattle.turn_means.proofs.Recording.{begins}
 use Rattle.build_means.specs.Rules.{IsReading}
-use Rattle.run_means.proofs.Keeping.{begin, did, none_there}
+use Rattle.run_means.proofs.Keeping.{begin, did}
 use Rattle.run_means.proofs.Lists.{among_contains, contains_among}
 use Rattle.turn_means.specs.Safety.{IsSafe}
 use Rattle.turn_means.specs.Standing.{Outset}
@@ -42,8 +41,11 @@ use Rattle.build_run.specs.Outsets.{wanted_of, GoesByContent, BuildRuns, BuildSu
 use Rattle.build_run.specs.Safe.{HasOutset, IsSafeNow, StaysSafe}
 use Rattle.build_run.specs.Skips.{AreSkips, BuildSkips, MakesSkipping}
 use Rattle.build_run.specs.Takes.{IsLeftAt}
+use Rattle.build_run.specs.Endings.{CountsEndings}
+use Rattle.build_run.specs.Unrecorded.{BuildCounts, EndsAll}
 use Rattle.build_run.specs.Truth.{TellsTruth}
 use Rattle.build_run.specs.declared.account.Account.{Account}
+use Rattle.build_run.proofs.Unrecorded.{has_counted}
 use Rattle.build_run.proofs.BuildPrinting.{none_printed}
 use Rattle.build_run.proofs.StepTexts.{steps_printed}
 use Rattle.build_run.proofs.EndingOn.{not_before}
@@ -230,6 +232,22 @@ module _ {W : Type 0} (m : Meaning W) (g : RuleGraph) (requested : List NodeId) 
           AreSkips w (map_of mid) (has (told tells) below).left (m.around c) did.made.runs.steps faults skipped) (sym reported) (did.skips (sym same ∙ e)));
     }
 
+    -- and that it counted what didn't end well
+    pub build_counted : (after : Account) (told : m.tells c → m.tells b) (last : Store) →
+        EndsAll m h run mid b account options c after last →
+        (after.is_store_shut ≡ true → Rose (m.counts a).disk_faults (m.counts c).disk_faults) → StaysKept m c last after →
+        (answer : BuildEnd) → answer.is_ended ≡ after.is_ended →
+        (m.tells c → CountsEndings (m.counts a) (m.counts c) answer.memory (m.around a).log (m.around c).log) →
+        BuildCounts m g requested options store a last c answer
+    unfolding made build_ran
+    build_counted after told last all rose stays answer same endings = record {
+      endings = endings;
+      counted = λ tells sure below.
+          has_counted m w (map_of store) a c (map_of last) answer.is_ended answer.memory
+          (build_ran after told last (λ t s x r. (all t s x r).made) rose stays answer same tells sure below)
+          (all tells sure (o (told tells) below) (ready (told tells) below)).idle (endings tells);
+    }
+
   -- or nothing is made
   abbrev has_refused : (m.tells c → m.tells a) → Leaves m a store c mid (IsLeftAt g (m.around a) (map_of store)) → (answer : BuildEnd) →
       answer.is_ended ≡ true → m.tells c → HasRun m w (map_of store) a c (map_of mid) answer.is_ended
@@ -279,6 +297,18 @@ module _ {W : Type 0} (m : Meaning W) (g : RuleGraph) (requested : List NodeId) 
   refused_skips back leaves answer ended = λ tells sure below. record {
     run = build_refused back leaves answer ended tells sure below;
     skips = λ e. true_false (sym ended ∙ e);
+  }
+
+  pub refused_counts : (m.tells c → m.tells a) → Leaves m a store c mid (IsLeftAt g (m.around a) (map_of store)) → (answer : BuildEnd) →
+      answer.is_ended ≡ true → (m.tells c → CountsEndings (m.counts a) (m.counts c) answer.memory (m.around a).log (m.around c).log) →
+      BuildCounts m g requested options store a mid c answer
+  refused_counts back leaves answer ended endings = record {
+    endings = endings;
+    counted = λ tells sure below.
+        let left = leaves tells (rest (back tells)) in
+        let none = left.running ∙ rest (back tells) in
+        let ran = did w (map_of mid) (m.counts a) (m.around c) (m.around c) [] [] read (begin w (map_of mid) (m.counts a) (m.around c) none) in
+        has_counted m w (map_of store) a c (map_of mid) answer.is_ended answer.memory (has_refused back leaves answer ended tells) (ap running ran.1) (endings tells);
   }
 
   pub refused_untold : (after : Account) → is_faulted after ≡ true → (answer : BuildEnd) →

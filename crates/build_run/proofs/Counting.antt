@@ -1,5 +1,5 @@
 -- That no more faults of a kind are found than its count rose by.
-use Rattle.std.proofs.Common.{◌≡◌, ◌≤◌, ◌<◌, ◌+◌, ◌-◌, ◌∙◌, ◌⊎◌, inl, inr, ap, sym, subst, refl, ℕ, List, [], ◌∷◌, ◌++◌, Bool, true, false, cond, arith, min}
+use Rattle.std.proofs.Common.{◌≡◌, ◌≤◌, ◌+◌, ◌-◌, ◌∙◌, inl, inr, sym, subst, refl, ℕ, List, [], ◌∷◌, ◌++◌, Bool, cond, arith, min}
 use Rattle.std.specs.List.{count_by}
 use Rattle.std.proofs.lemmas.List.Sums.{sum_by-append, sum_by-cons}
 use Rattle.scons_base.specs.Rising.{Rose}
@@ -11,7 +11,7 @@ use Rattle.build_run.specs.Counting.{RoseBy, is_action_fault, is_start_fault, is
 pub stands_still : (a b : ℕ) → a ≤ b → RoseBy 0 a b
 stands_still a b le = record { later = le; more = omega (arith, le) }
 
-rose_once : (a b : ℕ) → Rose a b → RoseBy 1 a b
+pub rose_once : (a b : ℕ) → Rose a b → RoseBy 1 a b
 rose_once a b r = record { later = r.later; more = r.more }
 
 pub rose_so : (n a b c : ℕ) → RoseBy n a b → b ≤ c → RoseBy n a c
@@ -20,15 +20,15 @@ rose_so n a b c r le = let up = r.later in let more = r.more in record { later =
 rose_fewer : (n m a b : ℕ) → m ≤ n → RoseBy n a b → RoseBy m a b
 rose_fewer n m a b le r = let up = r.later in let more = r.more in record { later = up; more = omega (arith, more, le) }
 
-rose_both : (n m a b c : ℕ) → RoseBy n a b → RoseBy m b c → RoseBy (n + m) a c
+pub rose_both : (n m a b c : ℕ) → RoseBy n a b → RoseBy m b c → RoseBy (n + m) a c
 rose_both n m a b c r s =
     let up = r.later in let more = r.more in let later = s.later in let further = s.more in
     record { later = omega (arith, up, later); more = omega (arith, more, further, up) }
 
-count_append : (p : BuildFault → Bool) (xs ys : List BuildFault) → count_by p (xs ++ ys) ≡ count_by p xs + count_by p ys
+pub count_append : {A : Type 0} (p : A → Bool) (xs ys : List A) → count_by p (xs ++ ys) ≡ count_by p xs + count_by p ys
 count_append p xs ys = sum_by-append (λ x. cond (p x) 1 0) xs ys
 
-count_one : (p : BuildFault → Bool) (f : BuildFault) → count_by p (f ∷ []) ≡ cond (p f) 1 0
+pub count_one : {A : Type 0} (p : A → Bool) (f : A) → count_by p (f ∷ []) ≡ cond (p f) 1 0
 count_one p f = sum_by-cons (λ x. cond (p x) 1 0) f [] ∙ none (cond (p f) 1 0)
   where
     none : (n : ℕ) → n + 0 ≡ n

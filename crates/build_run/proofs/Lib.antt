@@ -40,3 +40,5 @@ mod StartPrinting
 mod BuildPrinting
 mod Reporting
 mod StepTexts
+mod Endings
+mod Unrecorded

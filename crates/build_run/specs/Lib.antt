@@ -20,3 +20,5 @@ pub mod Takes
 pub mod Truth
 pub mod Withdrawals
 pub mod Whys
+pub mod Endings
+pub mod Unrecorded

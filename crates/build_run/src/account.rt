@@ -26,6 +26,7 @@ pub(crate) struct Account {
 impl Account {
     ghost use Rattle.std.specs.Prelude.{◌≡◌, true, false, string_bytes};
     ghost use Rattle.build_run.specs.Along.{is_faulted, IsEnd, KeepsEnds};
+    ghost use Rattle.build_run.specs.Endings.{KeepsWant};
     ghost use Rattle.build_run.specs.FaultTexts.{KeepsFault, KeepsTold, SameTold, Shows, ShowsIf};
     ghost use Rattle.build_run.specs.Ledgers.{ledger_of, blank, wanting, with_fault, with_end, Keeps, Reports};
     ghost use Rattle.rule_graph.specs.declared.build_fault.BuildFault.{BuildFault};
@@ -59,6 +60,7 @@ impl Account {
         ensures reason { IsLastEnd end → IsReasoned self.new }
         ensures texts { KeepsTold E.meaning err.old self.old err.new self.new }
         ensures noted { KeepsNoted self.old self.new }
+        ensures want { KeepsWant self.old self.new }
     {
         self.is_ended = true;
         match end {
@@ -83,6 +85,7 @@ impl Account {
         ensures reason { KeepsReason goes_on self.old self.new }
         ensures texts { KeepsTold E.meaning err.old self.old err.new self.new }
         ensures noted { KeepsNoted self.old self.new }
+        ensures want { KeepsWant self.old self.new }
         ensures notes { NotesRule self.new rule.0 fault }
     {
         self.report(err, fault);
@@ -100,6 +103,7 @@ impl Account {
         ensures texts { KeepsTold E.meaning err.old self.old err.new self.new }
         ensures last { IsLast fault → IsReasoned self.new }
         ensures noted { KeepsNoted self.old self.new }
+        ensures want { KeepsWant self.old self.new }
         ensures kept { IsKeptIn self.new fault }
     {
         let text = fault_text(self.alloc, &fault);

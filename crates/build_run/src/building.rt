@@ -9,6 +9,8 @@ ghost use Rattle.task_plan.specs.Cycles.{HasNoCycle};
 ghost use Rattle.build_files.specs.Causes.{HasLookCause, IsQuiet};
 ghost use Rattle.build_run.specs.Along.{is_faulted, KeepsEnds};
 ghost use Rattle.build_run.specs.Causes.{BuildCauses, IsInner};
+ghost use Rattle.build_run.specs.Endings.{EndingsAreCounted, KeepsWant};
+ghost use Rattle.build_run.specs.Unrecorded.{BuildCounts, EndsAll};
 ghost use Rattle.build_run.specs.FaultTexts.{BuildTells, KeepsTold, SiteKeepsTold};
 ghost use Rattle.build_run.specs.Goings.{Goes, Passes, Stays};
 ghost use Rattle.build_run.specs.Ledgers.{ledger_of, AllAccounts, Reports};
@@ -86,6 +88,7 @@ pub fn build<W: World, O: Sink, E: Sink>(
     ensures runs { RunsOver W.meaning graph.old requested.now options.now store.old world.old store.new world.new result }
     ensures succeeds { SucceedsOver W.meaning graph.old requested.now options.now store.old world.old store.new world.new result }
     ensures skips { BuildSkips W.meaning graph.old requested.now options.now store.old world.old store.new world.new result }
+    ensures counts { BuildCounts W.meaning graph.old requested.now options.now store.old world.old store.new world.new result }
     ensures safe { BuildsSafely W.meaning (wanted_of graph.old requested.now options.now) world.old world.new }
     ensures ends { EndsForReason options.now result }
     ensures tells { BuildTells E.meaning err.old err.new result }
@@ -129,6 +132,7 @@ fn set_out<W: World>(
     requires live { is_live store.old ≡ true }
     requires kept { IsKept W.meaning world.old store.old }
     ensures goes { Goes W.meaning world.old world.new }
+    ensures log { W.meaning.tells world.new → (W.meaning.around world.new).log ≡ (W.meaning.around world.old).log }
     ensures cause { HasTakeCause (W.meaning.counts world.old) (W.meaning.counts world.new) result }
     ensures live { OnOk result (is_live store.new ≡ true) }
     ensures kept { OnOk result (IsKept W.meaning world.new store.new) }
@@ -194,6 +198,8 @@ fn make_all<W: World, O: Sink, E: Sink>(
     ensures stored { StaysKept W.meaning world.new store.new account.new }
     ensures makes { MakesAll W.meaning graph.old run.old store.old world.old account.old options world.new account.new store.new }
     ensures skips { MakesSkipping W.meaning graph.old run.old store.old world.old account.old options world.new account.new store.new result }
+    ensures all { EndsAll W.meaning graph.old run.old store.old world.old account.old options world.new account.new store.new }
+    ensures counts { EndingsAreCounted W.meaning world.old account.old world.new account.new }
     ensures safe { MakesSafely W.meaning graph.old run.old store.old world.old account.old options world.new }
     ensures reason { KeepsReason options.keep account.old account.new }
     ensures texts { KeepsTold E.meaning err.old account.old err.new account.new }
@@ -230,6 +236,7 @@ impl<W: World, O: Sink, E: Sink> Site<'_, '_, W, O, E> {
         ensures skips { HasHeldPairs self.old.graph.now self.old.run.now.plan self.new.account.now result }
         ensures holds { HoldsNeedy self.old.graph.now self.old.run.now.plan }
         ensures noted { KeepsNoted self.old.account.now self.new.account.now }
+        ensures want { KeepsWant self.old.account.now self.new.account.now }
     {
         self.run.plan.holds(self.graph);
         let mut cycle = Vec::new(self.account.alloc);
@@ -265,6 +272,7 @@ fn tell_cycle<E: Sink>(
     ensures texts { KeepsTold E.meaning err.old account.old err.new account.new }
     ensures cycle { AreAtFault plan.now cycle.old.items → AreAtFault plan.now cycle.new.items }
     ensures noted { KeepsNoted account.old account.new }
+    ensures want { KeepsWant account.old account.new }
 {
     plan.finishes(graph);
     if account.is_ended {

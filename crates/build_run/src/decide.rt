@@ -3,6 +3,7 @@ ghost use Rattle.std.specs.Prelude.{◌≡◌, ◌≤◌, ◌<◌, [], length, I
 ghost use Rattle.build_files.specs.Causes.{HasLookCause, IsQuiet};
 ghost use Rattle.build_run.specs.Causes.{IsInner};
 ghost use Rattle.build_run.specs.Along.{GoesAlong, MakesAlong, Presents};
+ghost use Rattle.build_run.specs.Endings.{SiteCounts};
 ghost use Rattle.build_run.specs.FaultTexts.{SiteKeepsTold};
 ghost use Rattle.build_run.specs.Goings.{Stays};
 ghost use Rattle.world_api.specs.Looks.{Looks};
@@ -41,6 +42,7 @@ impl<W: World, O: Sink, E: Sink> Site<'_, '_, W, O, E> {
         ensures texts { SiteKeepsTold E.meaning self.old self.new }
         ensures last { EndsLast result }
         ensures noted { SiteKeepsNoted self.old self.new }
+        ensures counts { SiteCounts W.meaning self.old self.new }
         ensures fails { NotesDone self.new.graph.now self.new.account.now result }
         ensures plan { self.new.run.now.plan ≡ self.old.run.now.plan }
     {
@@ -72,6 +74,7 @@ impl<W: World, O: Sink, E: Sink> Site<'_, '_, W, O, E> {
         ensures last { EndsLast result }
         ensures shows { ShowsMade W.meaning O.meaning self.old self.new rule now result }
         ensures noted { SiteKeepsNoted self.old self.new }
+        ensures counts { SiteCounts W.meaning self.old self.new }
         ensures fails { NotesDone self.new.graph.now self.new.account.now result }
         ensures plan { self.new.run.now.plan ≡ self.old.run.now.plan }
     {

@@ -1,6 +1,7 @@
 //! What follows from the ending of an action.
 ghost use Rattle.std.specs.Prelude.{◌≡◌, ◌<◌, ◌+◌, ◌++◌, ◌∷◌, [], List, ℕ, length, true};
 ghost use Rattle.build_run.specs.Along.{is_faulted, EndsAlong, GoesOnAfter, HoldsFewer, KeepsEnds, KeepsKnown, StandsPut, TakesAlong};
+ghost use Rattle.build_run.specs.Endings.{KeepsWant, SiteCounts};
 ghost use Rattle.build_run.specs.FaultTexts.{KeepsTold, SiteKeepsTold};
 ghost use Rattle.build_run.specs.Goings.{Passes, IsJoined};
 ghost use Rattle.build_run.specs.Holds.{holds_in, without};
@@ -45,6 +46,7 @@ impl<W: World, O: Sink, E: Sink> Site<'_, '_, W, O, E> {
         ensures reason { SiteKeepsReason self.old self.new }
         ensures texts { SiteKeepsTold E.meaning self.old self.new }
         ensures noted { SiteKeepsNoted self.old self.new }
+        ensures counts { SiteCounts W.meaning self.old self.new }
         ensures fails { NotesEvent self.new.graph.now self.new.account.now result }
     {
         self.put_if_few();
@@ -67,6 +69,7 @@ impl<W: World, O: Sink, E: Sink> Site<'_, '_, W, O, E> {
         ensures reason { SiteKeepsReason self.old self.new }
         ensures texts { SiteKeepsTold E.meaning self.old self.new }
         ensures noted { SiteKeepsNoted self.old self.new }
+        ensures want { KeepsWant self.old.account.now self.new.account.now }
     {
         if self.run.tickets.len() >= self.options.most_jobs() {
             return;
@@ -91,6 +94,7 @@ impl<W: World, O: Sink, E: Sink> Site<'_, '_, W, O, E> {
         ensures reason { SiteKeepsReason self.old self.new }
         ensures texts { SiteKeepsTold E.meaning self.old self.new }
         ensures noted { SiteKeepsNoted self.old self.new }
+        ensures counts { SiteCounts W.meaning self.old self.new }
         ensures fails { NotesEvent self.new.graph.now self.new.account.now result }
     {
         let ended = wait(self.world, self.run, &self.options);
@@ -135,6 +139,7 @@ impl<W: World, O: Sink, E: Sink> Site<'_, '_, W, O, E> {
         ensures reason { SiteKeepsReason self.old self.new }
         ensures texts { SiteKeepsTold E.meaning self.old self.new }
         ensures noted { SiteKeepsNoted self.old self.new }
+        ensures want { KeepsWant self.old.account.now self.new.account.now }
     {
         let Ticketed { hold, ticket } = busy;
         self.run.held.add(hold, ticket);
@@ -160,6 +165,7 @@ impl<W: World, O: Sink, E: Sink> Site<'_, '_, W, O, E> {
         ensures reason { SiteKeepsReason self.old self.new }
         ensures texts { SiteKeepsTold E.meaning self.old self.new }
         ensures noted { SiteKeepsNoted self.old self.new }
+        ensures want { KeepsWant self.old.account.now self.new.account.now }
     {
         if self.account.is_store_shut {
             self.run.held.clear();
@@ -212,6 +218,8 @@ fn not_done<E: Sink>(
     ensures texts { KeepsTold E.meaning err.old account.old err.new account.new }
     ensures noted { KeepsNoted account.old account.new }
     ensures notes { IsNotedIn graph.now account.new rule.0 }
+    ensures want { KeepsWant account.old account.new }
+    ensures wants { outcome ≡ Outcome.NoMemory → account.new.memory ≡ true }
 {
     let Ok(target) = first_target(graph, rule) else {
         account.want_memory();

@@ -3,6 +3,7 @@ ghost use Rattle.std.specs.Prelude.{◌≡◌, ◌≤◌, ◌++◌, ◌∷◌, [
 ghost use Rattle.build_run.specs.Causes.{HasPrintCause, HasStartCause, IsUnstarted};
 ghost use Rattle.build_run.specs.Along.{IsWellStill, KeepsKnown, SameEnds};
 ghost use Rattle.build_run.specs.Books.{RefusesSo};
+ghost use Rattle.build_run.specs.Endings.{KeepsWant};
 ghost use Rattle.build_run.specs.FaultTexts.{SameTold, SiteKeepsTold};
 ghost use Rattle.build_run.specs.Goings.{Passes, ClearsAt, LaunchesAt, IsJoined, AreAbsent};
 ghost use Rattle.world_api.specs.Laws.{StartsJob};
@@ -56,6 +57,7 @@ impl<W: World, O: Sink, E: Sink> Site<'_, '_, W, O, E> {
         ensures prints { OnOk result (Prints O.meaning self.old.out.now self.new.out.now text.now) }
         ensures cuts { OnErr result (PrintsLast O.meaning self.old.out.now self.new.out.now text.now) }
         ensures noted { SiteKeepsNoted self.old self.new }
+        ensures want { KeepsWant self.old.account.now self.new.account.now }
     {
         self.clear(&job, ticket)?;
         show(self.account, self.out, text)?;

@@ -4,6 +4,7 @@ ghost use Rattle.rule_graph.specs.declared.rule.Rule.{Rule as DeclaredRule};
 ghost use Rattle.build_files.specs.Causes.{IsQuiet};
 ghost use Rattle.build_run.specs.Along.{StartsAlong};
 ghost use Rattle.build_run.specs.Output.{StartsPrinting};
+ghost use Rattle.build_run.specs.Endings.{SiteCounts};
 ghost use Rattle.build_run.specs.FaultTexts.{SiteKeepsTold};
 ghost use Rattle.build_run.specs.Noted.{SiteKeepsNoted};
 ghost use Rattle.build_run.specs.Reasons.{EndsLast, SiteKeepsReason};
@@ -50,6 +51,7 @@ impl<W: World, O: Sink, E: Sink> Site<'_, '_, W, O, E> {
         ensures prints { OnOk result (PrintsStart O.meaning self.old self.new rule (string_bytes why)) }
         ensures printing { StartsPrinting W.meaning O.meaning self.old self.new rule now (string_bytes why) result }
         ensures noted { SiteKeepsNoted self.old self.new }
+        ensures counts { SiteCounts W.meaning self.old self.new }
         ensures plan { self.new.run.now.plan ≡ self.old.run.now.plan }
     {
         if self.account.is_store_shut {

@@ -1,6 +1,7 @@
 //! The turns of a build: what the plan wants is done, and the plan is told what came of it.
 ghost use Rattle.std.specs.Prelude.{◌≡◌, ◌≢◌, ◌⊎◌, ◌≤◌, ◌<◌, [], true, false, length, Err, OnErr};
 ghost use Rattle.build_run.specs.Along.{ComesOn, GoesAlong, IsReliable, IsSpent, IsWantedOf, RestsAlong, StaysAlong, StepsOr, Tells, TellsAlong};
+ghost use Rattle.build_run.specs.Endings.{KeepsWant, SiteCounts};
 ghost use Rattle.build_run.specs.FaultTexts.{KeepsTold, SameTold, SiteKeepsTold};
 ghost use Rattle.build_run.specs.Outsets.{StaysKept};
 ghost use Rattle.build_run.specs.Ledgers.{ledger_of, with_done, Accounts, Keeps, Reports};
@@ -38,6 +39,7 @@ impl<W: World, O: Sink, E: Sink> Site<'_, '_, W, O, E> {
         ensures reason { SiteKeepsReason self.old self.new }
         ensures texts { SiteKeepsTold E.meaning self.old self.new }
         ensures noting { SiteStaysNoting self.old self.new }
+        ensures counts { SiteCounts W.meaning self.old self.new }
     {
         self.take_turns();
         self.wait_for_all();
@@ -60,6 +62,7 @@ impl<W: World, O: Sink, E: Sink> Site<'_, '_, W, O, E> {
         ensures reason { SiteKeepsReason self.old self.new }
         ensures texts { SiteKeepsTold E.meaning self.old self.new }
         ensures noting { SiteStaysNoting self.old self.new }
+        ensures counts { SiteCounts W.meaning self.old self.new }
     {
         for _turn in 0..u64::MAX {
             let wanted = want(self.run, &self.options);
@@ -87,6 +90,7 @@ impl<W: World, O: Sink, E: Sink> Site<'_, '_, W, O, E> {
         ensures reason { SiteKeepsReason self.old self.new }
         ensures texts { SiteKeepsTold E.meaning self.old self.new }
         ensures noting { SiteStaysNoting self.old self.new }
+        ensures counts { SiteCounts W.meaning self.old self.new }
     {
         let running = self.run.tickets.len();
         for _turn in 0..running {
@@ -116,6 +120,7 @@ impl<W: World, O: Sink, E: Sink> Site<'_, '_, W, O, E> {
         ensures reason { EndsLast done → SiteKeepsReason self.old self.new }
         ensures texts { SiteKeepsTold E.meaning self.old self.new }
         ensures noting { NotesDone self.old.graph.now self.old.account.now done → SiteStaysNoting self.old self.new }
+        ensures want { KeepsWant self.old.account.now self.new.account.now }
     {
         tell(self.graph, &mut self.run.plan, self.account, self.err, done);
         halt(self.graph, &mut self.run.plan, self.account);
@@ -136,6 +141,7 @@ impl<W: World, O: Sink, E: Sink> Site<'_, '_, W, O, E> {
         ensures texts { SiteKeepsTold E.meaning self.old self.new }
         ensures last { EndsLast result }
         ensures noted { SiteKeepsNoted self.old self.new }
+        ensures counts { SiteCounts W.meaning self.old self.new }
         ensures fails { NotesDone self.new.graph.now self.new.account.now result }
         ensures plan { self.new.run.now.plan ≡ self.old.run.now.plan }
     {
@@ -159,6 +165,7 @@ impl<W: World, O: Sink, E: Sink> Site<'_, '_, W, O, E> {
         ensures texts { SiteKeepsTold E.meaning self.old self.new }
         ensures last { EndsLast result }
         ensures noted { SiteKeepsNoted self.old self.new }
+        ensures counts { SiteCounts W.meaning self.old self.new }
         ensures fails { NotesDone self.new.graph.now self.new.account.now result }
         ensures plan { self.new.run.now.plan ≡ self.old.run.now.plan }
     {
@@ -217,6 +224,7 @@ fn tell<E: Sink>(
     ensures reason { EndsLast done → StaysReasoned account.old account.new }
     ensures texts { KeepsTold E.meaning err.old account.old err.new account.new }
     ensures noted { KeepsNoted account.old account.new }
+    ensures want { KeepsWant account.old account.new }
 {
     match done {
         Ok(event) => step(graph, plan, account, event),

@@ -12,6 +12,8 @@ use Rattle.build_run.proofs.Taking.{take_accounted}
 use Rattle.build_run.proofs.Reasons.{answers_so, not_ended}
 use Rattle.build_run.proofs.Reporting.{begins_told, build_tells}
 use Rattle.build_run.specs.Ledgers.{Ledger}
+use Rattle.build_run.proofs.Builds.{build_counted, refused_counts}
+use Rattle.build_run.proofs.Endings.{all_counted, none_counted}
 use Rattle.build_run.proofs.building.build.Goals as goal
 
 pub make_all-skipped-requires : goal.make_all-skipped-requires
@@ -185,3 +187,32 @@ returns-in-Err-clause-tells g c =
     build_tells e c.args.err.now c.end.new.err c.end.new.self c.answer-in-Err.result c.answer-in-Err.ensures.faults c.answer-in-Err.ensures.memory
     (c.end.ensures.texts c.args.err.now
     (begins_told e c.args.err.now new.result (ap (λ (l : Ledger). l.faults) new.ensures.ledger) new.ensures.unshut))
+
+pub returns-in-Ok-clause-counts : goal.returns-in-Ok-clause-counts
+returns-in-Ok-clause-counts g c =
+    let m = g.W.Disk.meaning in
+    let start = outside (m.counts c.args.world.now) (g.O.Sink.meaning.faults c.args.out.now) (g.E.Sink.meaning.faults c.args.err.now) in
+    let first = account_as start start blank (ledger_of c.new-account.result) c.new-account.ensures.ledger (at_first start) in
+    let made = c.make_all-skipped.ensures.accounts start (same_counts start (ledger_of c.new-account.result) _ _ _ _ c.in-Ok.ensures.cause first) in
+    let read : IsReading c.args.graph.now = record { apart = c.laws.ensures.apart; single = c.laws.ensures.single; named = c.laws.ensures.named } in
+    let all = c.make_all-skipped.ensures in
+    build_counted m c.args.graph.now c.args.requested.now c.args.options.now read c.args.world.now c.set_out.new.world
+    c.make_all-skipped.new.world c.args.store.now c.set_out.new.store c.requires.idle c.set_out.new.graph c.in-Ok.run' c.new-account.result
+    c.set_out.ensures.goes.passes.told.told c.in-Ok.ensures.cause
+    c.in-Ok.ensures.sets (is_blank c.new-account.result c.new-account.ensures.ledger c.new-account.ensures.ended)
+    (g.met.W.Disk.reads_as c.set_out.new.world) c.in-Ok.ensures.kept all.passes.told.sure c.set_out.ensures.safe
+    c.runs_are_right.ensures
+    c.make_all-skipped.new.account all.passes.told.told
+    c.make_all-skipped.new.store all.all made.shut all.stored c.answer.result c.answer.ensures.ended
+    (all_counted m c.args.world.now c.set_out.new.world c.make_all-skipped.new.world c.answer.result.memory c.new-account.result
+    c.make_all-skipped.new.account c.answer.ensures.memory all.passes.told.told c.set_out.ensures.goes.passes.later c.set_out.ensures.log all.counts)
+
+pub returns-in-Err-clause-counts : goal.returns-in-Err-clause-counts
+returns-in-Err-clause-counts g c =
+    let m = g.W.Disk.meaning in
+    let read : IsReading c.args.graph.now = record { apart = c.laws.ensures.apart; single = c.laws.ensures.single; named = c.laws.ensures.named } in
+    let world = c.set_out.new.world in
+    refused_counts m c.args.graph.now c.args.requested.now c.args.options.now read c.args.world.now world
+    world c.args.store.now c.set_out.new.store c.requires.idle c.set_out.ensures.goes.passes.told.told c.in-Err.ensures.rest
+    c.answer-in-Err.result (c.answer-in-Err.ensures.ended ∙ c.end.ensures.ends.ended)
+    (none_counted m c.args.world.now world world c.answer-in-Err.result.memory c.set_out.ensures.goes.passes.later c.set_out.ensures.log)

@@ -9,6 +9,8 @@ use Rattle.build_run.proofs.Skipping.{has_skipped, none_noted, skipped_given}
 use Rattle.build_run.proofs.Stopped.{along_first}
 use Rattle.build_run.proofs.Turning.{first_safe, safe_given}
 use Rattle.build_run.proofs.Reporting.{told_given}
+use Rattle.build_run.proofs.Endings.{counts_given, counts_on, counts_still}
+use Rattle.build_run.proofs.Unrecorded.{all_given, has_made_all}
 use Rattle.build_run.proofs.building.make_all.Goals as goal
 
 pub go_on-requires : goal.go_on-requires
@@ -115,3 +117,32 @@ returns-clause-texts g c =
     let lent_account = same.account ∙ passes.account in
     told_given g.E.Sink.meaning c.close.new.self c.args.err.now c.args.account.now _ c.account-1.given.0 (search rules) (search rules)
     (λ start has. c.close.ensures.texts start (c.go_on.ensures.texts start has))
+
+pub returns-clause-all : goal.returns-clause-all
+returns-clause-all g c = λ tells sure o ready.
+    let m = g.W.Disk.meaning in
+    let mid = c.go_on.new.self in
+    let same = c.close.ensures.same in
+    let passes = c.go_on.ensures.passes.same in
+    let lent_world = same.world ∙ passes.world in
+    let lent_account = same.account ∙ passes.account in
+    let lent_store = same.store ∙ passes.store in
+    let along = first_along m o _ ready c.requires.held c.requires.none in
+    all_given m c.close.new.self o mid.world.now _ _ c.store-1.given.0 (search rules) (search rules) (search rules) c.close.ensures.world
+    (λ t s. has_made_all m o ready.outset mid c.close.new.self.account.now (c.go_on.ensures.on t s o ready.outset along) (c.go_on.ensures.idle t)
+    (c.go_on.ensures.still t s o ready.outset along) c.close.ensures.ends c.close.ensures.finishes c.finished_succeed.ensures
+    c.go_on.ensures.put c.close.ensures.shut (map_of c.close.new.self.store.now) (ap map_of c.close.ensures.store))
+    tells sure
+
+pub returns-clause-counts : goal.returns-clause-counts
+returns-clause-counts g c =
+    let m = g.W.Disk.meaning in
+    let mid = c.go_on.new.self in
+    let same = c.close.ensures.same in
+    let passes = c.go_on.ensures.passes.same in
+    let lent_world = same.world ∙ passes.world in
+    let lent_account = same.account ∙ passes.account in
+    counts_given m c.close.new.self c.args.world.now c.args.account.now mid.world.now _ c.account-1.given.0 (search rules) (search rules)
+    c.close.ensures.world
+    (counts_on m c.args.world.now c.args.account.now mid.world.now mid.account.now mid.world.now c.close.new.self.account.now (λ t. t)
+    c.go_on.ensures.counts (counts_still m mid.world.now mid.account.now c.close.new.self.account.now c.close.ensures.want))

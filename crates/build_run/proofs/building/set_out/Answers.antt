@@ -5,6 +5,7 @@ use Rattle.build_run.proofs.Goings.{goes_on}
 use Rattle.build_run.proofs.Leaving.{leaves_looked, leaves_on}
 use Rattle.build_run.proofs.Outs.{held_ok}
 use Rattle.build_run.proofs.Taking.{kept_over, take_after, take_exit, take_look}
+use Rattle.std.proofs.Common.{◌∙◌}
 use Rattle.build_run.proofs.building.set_out.Goals as goal
 
 pub returns-in_err-take_leftovers-clause-cause : goal.returns-in_err-take_leftovers-clause-cause
@@ -18,6 +19,17 @@ returns-clause-cause g c = take_after _ _ _ c.begin.result c.in_ok-take_leftover
 
 pub returns-clause-live : goal.returns-clause-live
 returns-clause-live g c = held_ok c.begin.result c.in_ok-take_leftovers.ensures.live
+
+pub returns-in_err-take_leftovers-clause-log : goal.returns-in_err-take_leftovers-clause-log
+returns-in_err-take_leftovers-clause-log g c = λ t.
+    let left = c.take_leftovers.ensures in (left.rest t (c.requires.idle (left.goes.passes.told.told t))).log
+
+pub returns-clause-log : goal.returns-clause-log
+returns-clause-log g c = λ t.
+    let left = c.take_leftovers.ensures in
+    let begun = c.begin.ensures in
+    let told = begun.stays.goes.passes.told.told t in
+    (begun.looks.around t).log ∙ (left.rest told (c.requires.idle (left.goes.passes.told.told told))).log
 
 pub returns-clause-kept : goal.returns-clause-kept
 returns-clause-kept g c =

@@ -17,3 +17,6 @@ returns-clause-reason g c = λ reason keep is.
 pub returns-clause-texts : goal.returns-clause-texts
 returns-clause-texts g c = λ start has.
     same_told g.E.Sink.meaning _ c.report.new.self c.note_faulty.new.self c.note_faulty.ensures.same start (c.report.ensures.texts start has)
+
+pub returns-clause-want : goal.returns-clause-want
+returns-clause-want g c = λ ample. c.report.ensures.want (c.note_faulty.ensures.same.memory ample)

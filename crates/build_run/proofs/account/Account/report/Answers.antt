@@ -1,5 +1,6 @@
 use Rattle.std.specs.Prelude.{string_bytes}
 use Rattle.build_run.proofs.Reporting.{reported, shows_this}
+use Rattle.build_run.proofs.Endings.{shown_if}
 use Rattle.build_run.proofs.account.Account.report.Goals as goal
 
 pub returns-clause-texts : goal.returns-clause-texts
@@ -14,3 +15,9 @@ returns-clause-noted g c = λ graph rule n. c.show.ensures.noted graph rule (c.k
 
 pub returns-clause-kept : goal.returns-clause-kept
 returns-clause-kept g c = c.show.ensures.faults c.args.fault c.keep.ensures.kept
+
+pub returns-clause-want : goal.returns-clause-want
+returns-clause-want g c = λ ample.
+    c.keep.ensures.adds.memory
+    (shown_if g.E.Sink.meaning c.args.err.now c.keep.new.self c.show.new.err c.show.new.self (λ s. string_bytes s) c.fault_text-text.result
+    c.show.ensures.shows ample)

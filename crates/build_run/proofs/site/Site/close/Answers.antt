@@ -35,3 +35,6 @@ returns-in-Ok-clause-skips g c = λ going. c.in-Ok.ensures
 
 pub returns-clause-skips : goal.returns-clause-skips
 returns-clause-skips g c = λ going. true_false (sym c.want_memory.ensures.ends.ended ∙ going)
+
+pub returns-clause-want : goal.returns-clause-want
+returns-clause-want g c = λ ample. c.tell_cycle.ensures.want (c.want_memory.ensures.same.memory ample)

@@ -12,6 +12,7 @@ use Rattle.build_run.proofs.Starting.{end_of_turn, ended_looked}
 use Rattle.build_run.proofs.Reasons.{last_exit, last_inside}
 use Rattle.build_run.proofs.Choosing.{goes_before}
 use Rattle.build_run.proofs.Printing.{quiet_looked, quiet_prints, quiet_turn}
+use Rattle.build_run.proofs.Endings.{counts_looked, counts_on}
 use Rattle.build_run.proofs.site.Site.decide.Goals as goal
 
 pub returns-in_ok-missing-in-Lacks-clause-fails : goal.returns-in_ok-missing-in-Lacks-clause-fails
@@ -180,3 +181,28 @@ returns-in-Record-clause-printing g c = record {
 
 pub returns-in_ok-missing-in-Lacks-clause-noted : goal.returns-in_ok-missing-in-Lacks-clause-noted
 returns-in_ok-missing-in-Lacks-clause-noted g c = λ rule n. c.fail.ensures.noted c.args.self.now.graph.now rule n
+
+pub returns-in_err-now-clause-counts : goal.returns-in_err-now-clause-counts
+returns-in_err-now-clause-counts g c =
+    let p = c.present.ensures in
+    counts_looked g.W.Disk.meaning _ _ _ _ (λ ample. ample) p.stays.goes.passes.later p.looks
+
+pub returns-in_err-missing-in-Lacks-clause-counts : goal.returns-in_err-missing-in-Lacks-clause-counts
+returns-in_err-missing-in-Lacks-clause-counts g c =
+    let p = c.present.ensures in
+    counts_looked g.W.Disk.meaning _ _ _ _ (λ ample. ample) p.stays.goes.passes.later p.looks
+
+pub returns-in_ok-missing-in-Lacks-clause-counts : goal.returns-in_ok-missing-in-Lacks-clause-counts
+returns-in_ok-missing-in-Lacks-clause-counts g c =
+    let p = c.present.ensures in
+    counts_looked g.W.Disk.meaning _ _ _ _ c.fail.ensures.want p.stays.goes.passes.later p.looks
+
+pub returns-in-Record-clause-counts : goal.returns-in-Record-clause-counts
+returns-in-Record-clause-counts g c =
+    let m = g.W.Disk.meaning in
+    let p = c.present.ensures in
+    let site = c.args.self.now in
+    let world = c.present.new.world in
+    let now = c.make.new.self in
+    counts_on m site.world.now site.account.now world site.account.now now.world.now now.account.now c.make.ensures.passes.passes.told.told
+    (counts_looked m site.world.now site.account.now world site.account.now (λ ample. ample) p.stays.goes.passes.later p.looks) c.make.ensures.counts

@@ -6,6 +6,7 @@ use Rattle.world_api.specs.Around.{Around}
 use Rattle.build_run.proofs.Alongs.{goes_to_rest, still_at_rest}
 use Rattle.build_run.proofs.Printing.{prints_on, quiet_on, quiet_prints, quiet_put}
 use Rattle.build_run.proofs.Sites.{site_on, site_puts}
+use Rattle.build_run.proofs.Endings.{site_counts_on, site_counts_put}
 use Rattle.build_run.proofs.site.Site.go_on.Goals as goal
 
 pub returns-clause-noting : goal.returns-clause-noting
@@ -70,3 +71,12 @@ returns-clause-printing g c =
 
 pub returns-clause-texts : goal.returns-clause-texts
 returns-clause-texts g c = λ start has. c.put_held.ensures.texts start (c.wait_for_all.ensures.texts start (c.take_turns.ensures.texts start has))
+
+pub returns-clause-counts : goal.returns-clause-counts
+returns-clause-counts g c =
+    let m = g.W.Disk.meaning in
+    let waits = c.wait_for_all.ensures in
+    let put = c.put_held.ensures in
+    site_counts_on m c.args.self.now c.wait_for_all.new.self c.put_held.new.self put.puts.goes.passes.told.told
+    (site_counts_on m c.args.self.now c.take_turns.new.self c.wait_for_all.new.self waits.passes.passes.told.told c.take_turns.ensures.counts waits.counts)
+    (site_counts_put m c.wait_for_all.new.self c.put_held.new.self put.puts put.want)

@@ -171,3 +171,9 @@ returns-in_err-show-clause-noted g c = λ rule n. c.show.ensures.noted c.clear.n
 
 pub returns-clause-noted : goal.returns-clause-noted
 returns-clause-noted g c = λ rule n. c.show.ensures.noted c.clear.new.self.graph.now rule (c.clear.ensures.noted rule n)
+
+pub returns-in_err-show-clause-want : goal.returns-in_err-show-clause-want
+returns-in_err-show-clause-want g c = λ ample. c.clear.ensures.texts.memory (c.show.ensures.texts.memory ample)
+
+pub returns-clause-want : goal.returns-clause-want
+returns-clause-want g c = λ ample. c.clear.ensures.texts.memory (c.show.ensures.texts.memory ample)

@@ -24,6 +24,7 @@ use Rattle.build_run.proofs.Explaining.{why_after}
 use Rattle.build_run.proofs.Printing.{end_printed, quiet_looked, quiet_make, quiet_prints}
 use Rattle.build_run.proofs.Choosing.{targets_idle}
 use Rattle.build_run.proofs.Reporting.{same_told}
+use Rattle.build_run.proofs.Endings.{counts_looked, counts_on, counts_still}
 use Rattle.build_run.proofs.site.Site.make.Goals as goal
 
 pub returns-in_err-is_stale-clause-ends : goal.returns-in_err-is_stale-clause-ends
@@ -329,3 +330,46 @@ returns-clause-texts g c = λ start has.
 
 pub returns-clause-noted : goal.returns-clause-noted
 returns-clause-noted g c = λ rule n. c.note_start.ensures.noted c.start.new.self.graph.now rule (c.start.ensures.noted rule n)
+
+pub returns-in_err-is_stale-clause-counts : goal.returns-in_err-is_stale-clause-counts
+returns-in_err-is_stale-clause-counts g c =
+    let m = g.W.Disk.meaning in
+    let stays = looked_at m _ _ c.is_stale.result c.is_stale.ensures.looks c.is_stale.ensures.cause in
+    counts_looked m _ _ _ _ (λ ample. ample) stays.goes.passes.later c.is_stale.ensures.looks
+
+pub returns-then-not-branch-clause-counts : goal.returns-then-not-branch-clause-counts
+returns-then-not-branch-clause-counts g c =
+    let m = g.W.Disk.meaning in
+    let stays = looked_at m _ _ c.is_stale.result c.is_stale.ensures.looks c.is_stale.ensures.cause in
+    counts_looked m _ _ _ _ (λ ample. ample) stays.goes.passes.later c.is_stale.ensures.looks
+
+pub returns-in_err-why-clause-counts : goal.returns-in_err-why-clause-counts
+returns-in_err-why-clause-counts g c =
+    let m = g.W.Disk.meaning in
+    let looks = looks_joined m _ _ _ c.is_stale.ensures.looks c.why_text.ensures.looks in
+    let stays = looked_at m _ _ c.why_text.result looks (cause_on _ _ _ c.why_text.result c.in_ok-is_stale.ensures.cause c.why_text.ensures.cause) in
+    counts_looked m _ _ _ _ (λ ample. ample) stays.goes.passes.later looks
+
+pub returns-in_err-start-clause-counts : goal.returns-in_err-start-clause-counts
+returns-in_err-start-clause-counts g c =
+    let m = g.W.Disk.meaning in
+    let site = c.args.self.now in
+    let world = c.why_text.new.world in
+    let now = c.start.new.self in
+    let looks = looks_joined m _ _ _ c.is_stale.ensures.looks c.why_text.ensures.looks in
+    let stays = looked_at m _ _ c.why_text.result looks (cause_on _ _ _ c.why_text.result c.in_ok-is_stale.ensures.cause c.why_text.ensures.cause) in
+    counts_on m site.world.now site.account.now world site.account.now now.world.now now.account.now c.start.ensures.passes.passes.told.told
+    (counts_looked m site.world.now site.account.now world site.account.now (λ ample. ample) stays.goes.passes.later looks) c.start.ensures.counts
+
+pub returns-clause-counts : goal.returns-clause-counts
+returns-clause-counts g c =
+    let m = g.W.Disk.meaning in
+    let site = c.args.self.now in
+    let world = c.why_text.new.world in
+    let now = c.start.new.self in
+    let looks = looks_joined m _ _ _ c.is_stale.ensures.looks c.why_text.ensures.looks in
+    let stays = looked_at m _ _ c.why_text.result looks (cause_on _ _ _ c.why_text.result c.in_ok-is_stale.ensures.cause c.why_text.ensures.cause) in
+    counts_on m site.world.now site.account.now now.world.now now.account.now now.world.now c.note_start.new.self (λ t. t)
+    (counts_on m site.world.now site.account.now world site.account.now now.world.now now.account.now c.start.ensures.passes.passes.told.told
+    (counts_looked m site.world.now site.account.now world site.account.now (λ ample. ample) stays.goes.passes.later looks) c.start.ensures.counts)
+    (counts_still m now.world.now now.account.now c.note_start.new.self c.note_start.ensures.same.memory)

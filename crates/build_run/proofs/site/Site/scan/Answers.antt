@@ -9,6 +9,7 @@ use Rattle.build_run.proofs.Scanning.{goes_on, scan_ends, scan_told, still}
 use Rattle.build_run.proofs.Sites.{looked_at, sound_still}
 use Rattle.build_run.proofs.Starting.{end_of_turn}
 use Rattle.build_run.proofs.Printing.{quiet_looked}
+use Rattle.build_run.proofs.Endings.{counts_looked}
 use Rattle.build_run.proofs.site.Site.scan.Goals as goal
 
 pub returns-in_err-found-clause-noted : goal.returns-in_err-found-clause-noted
@@ -85,3 +86,15 @@ returns-in_err-found-clause-quiet g c = quiet_looked g.W.Disk.meaning c.args.sel
 
 pub returns-clause-quiet : goal.returns-clause-quiet
 returns-clause-quiet g c = quiet_looked g.W.Disk.meaning c.args.self.now _ refl refl (λ e. e) c.scanned.ensures.looks.around
+
+pub returns-in_err-found-clause-counts : goal.returns-in_err-found-clause-counts
+returns-in_err-found-clause-counts g c =
+    let m = g.W.Disk.meaning in
+    let stays = looked_at m _ _ c.scanned.result c.scanned.ensures.looks c.scanned.ensures.cause in
+    counts_looked m _ _ _ _ (λ ample. ample) stays.goes.passes.later c.scanned.ensures.looks
+
+pub returns-clause-counts : goal.returns-clause-counts
+returns-clause-counts g c =
+    let m = g.W.Disk.meaning in
+    let stays = looked_at m _ _ c.scanned.result c.scanned.ensures.looks c.scanned.ensures.cause in
+    counts_looked m _ _ _ _ (λ ample. ample) stays.goes.passes.later c.scanned.ensures.looks

@@ -28,6 +28,7 @@ use Rattle.build_model.specs.Rules.{Record}
 use Rattle.build_run.specs.Output.{PrintsLast}
 use Rattle.build_run.proofs.Printing.{end_printed}
 use Rattle.build_run.proofs.StartPrinting.{last_told, refused_printed, started_printed}
+use Rattle.build_run.proofs.Endings.{counts_cleared, counts_launched, counts_still}
 use Rattle.build_run.proofs.site.Site.start.Goals as goal
 
 pub returns-then-self-clause-ends : goal.returns-then-self-clause-ends
@@ -462,3 +463,54 @@ returns-clause-printing g c = record {
       start is.has (is.none due.weighed.goes_on)
       (subst (λ (t : List ℕ). PrintsLast p site.out.now now.out.now t) c.as_str.ensures.value c.in-Err.ensures.cuts) shows;
 }
+
+pub returns-then-self-clause-counts : goal.returns-then-self-clause-counts
+returns-then-self-clause-counts g c =
+    let site = c.args.self.now in
+    counts_still g.W.Disk.meaning site.world.now site.account.now site.account.now (λ ample. ample)
+
+pub returns-in_err-text-clause-counts : goal.returns-in_err-text-clause-counts
+returns-in_err-text-clause-counts g c =
+    let site = c.args.self.now in
+    counts_still g.W.Disk.meaning site.world.now site.account.now site.account.now (λ ample. ample)
+
+pub returns-in_err-job-clause-counts : goal.returns-in_err-job-clause-counts
+returns-in_err-job-clause-counts g c =
+    let site = c.args.self.now in
+    counts_still g.W.Disk.meaning site.world.now site.account.now site.account.now (λ ample. ample)
+
+pub returns-in_err-hold-clause-counts : goal.returns-in_err-hold-clause-counts
+returns-in_err-hold-clause-counts g c =
+    let site = c.args.self.now in
+    counts_still g.W.Disk.meaning site.world.now site.account.now site.account.now (λ ample. ample)
+
+pub returns-then-not-are_apart-clause-counts : goal.returns-then-not-are_apart-clause-counts
+returns-then-not-are_apart-clause-counts g c =
+    let site = c.args.self.now in
+    counts_still g.W.Disk.meaning site.world.now site.account.now site.account.now (λ ample. ample)
+
+pub returns-then-not-make_none_of-clause-counts : goal.returns-then-not-make_none_of-clause-counts
+returns-then-not-make_none_of-clause-counts g c =
+    let site = c.args.self.now in
+    counts_still g.W.Disk.meaning site.world.now site.account.now site.account.now (λ ample. ample)
+
+pub returns-in_err-ticket-clause-counts : goal.returns-in_err-ticket-clause-counts
+returns-in_err-ticket-clause-counts g c =
+    let site = c.args.self.now in
+    counts_still g.W.Disk.meaning site.world.now site.account.now site.account.now (λ ample. ample)
+
+pub returns-in-Ok-clause-counts : goal.returns-in-Ok-clause-counts
+returns-in-Ok-clause-counts g c =
+    let site = c.args.self.now in
+    let now = c.launch.new.self in
+    let is = c.launch.ensures in
+    counts_launched g.W.Disk.meaning site.world.now site.account.now now.world.now now.account.now c.in_ok-job.job is.want is.passes.passes.later
+    c.in-Ok.ensures.starts
+
+pub returns-clause-counts : goal.returns-clause-counts
+returns-clause-counts g c =
+    let site = c.args.self.now in
+    let now = c.launch.new.self in
+    let is = c.launch.ensures in
+    counts_cleared g.W.Disk.meaning c.in_ok-job.job.targets site.world.now site.account.now now.world.now now.account.now is.want
+    is.passes.passes.later c.in-Err.ensures.clears

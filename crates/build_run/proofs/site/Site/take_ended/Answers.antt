@@ -27,6 +27,7 @@ use Rattle.build_run.proofs.Outs.{held_count, last_of, out_in, room_beside, rule
 use Rattle.build_run.proofs.Choosing.{goes_before}
 use Rattle.build_run.proofs.Printing.{ends_same, put_ended, quiet_ended}
 use Rattle.build_run.proofs.Reporting.{same_told}
+use Rattle.build_run.proofs.Endings.{counts_ended, counts_none, counts_on, not_wanted}
 use Rattle.build_run.proofs.site.Site.take_ended.Goals as goal
 
 pub returns-in_default-clause-passes : goal.returns-in_default-clause-passes
@@ -353,3 +354,31 @@ returns-in_default-clause-texts g c = λ start has.
 
 pub returns-in_default-outcome-clause-noted : goal.returns-in_default-outcome-clause-noted
 returns-in_default-outcome-clause-noted g c = λ rule n. c.not_done.ensures.noted c.args.self.now.graph.now rule n
+
+pub returns-in_default-clause-counts : goal.returns-in_default-clause-counts
+returns-in_default-clause-counts g c =
+    let is = c.wait-ended.ensures in
+    let ended = c.wait-ended.result in
+    counts_ended g.W.Disk.meaning _ _ _ _ ended.id ended.outcome c.want_memory.ensures.same.memory is.passes.later is.cause
+    (λ e. c.want_memory.ensures.memory) is.log
+
+pub returns-in-Done-clause-counts : goal.returns-in-Done-clause-counts
+returns-in-Done-clause-counts g c =
+    let m = g.W.Disk.meaning in
+    let site = c.args.self.now in
+    let is = c.wait-ended.ensures in
+    let ended = c.wait-ended.result in
+    let world = c.wait-ended.new.world in
+    let new = c.hold.new.self in
+    let puts = c.hold.ensures.puts in
+    counts_on m site.world.now site.account.now world site.account.now new.world.now new.account.now puts.goes.passes.told.told
+    (counts_ended m site.world.now site.account.now world site.account.now ended.id ended.outcome (λ ample. ample) is.passes.later is.cause
+    (λ e. not_wanted ended.outcome c.in-Done.is e) is.log)
+    (counts_none m world site.account.now new.world.now new.account.now c.hold.ensures.want puts.goes.passes.later
+    (λ t. ap (λ (around : Around). around.log) (puts.around t)))
+
+pub returns-in_default-outcome-clause-counts : goal.returns-in_default-outcome-clause-counts
+returns-in_default-outcome-clause-counts g c =
+    let is = c.wait-ended.ensures in
+    let ended = c.wait-ended.result in
+    counts_ended g.W.Disk.meaning _ _ _ _ ended.id ended.outcome c.not_done.ensures.want is.passes.later is.cause c.not_done.ensures.wants is.log

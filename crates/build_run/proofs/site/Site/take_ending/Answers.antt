@@ -10,6 +10,7 @@ use Rattle.build_run.proofs.EndingOn.{may_take}
 use Rattle.build_run.proofs.Sites.{site_on, site_puts}
 use Rattle.build_run.proofs.Booking.{puts_book}
 use Rattle.build_run.proofs.Printing.{quiet_on, quiet_put}
+use Rattle.build_run.proofs.Endings.{site_counts_on, site_counts_put}
 use Rattle.build_run.proofs.site.Site.take_ending.Goals as goal
 
 pub take_ended-requires-clause-some : goal.take_ended-requires-clause-some
@@ -87,3 +88,11 @@ returns-clause-texts g c = λ start has. c.take_ended.ensures.texts start (c.put
 
 pub returns-clause-noted : goal.returns-clause-noted
 returns-clause-noted g c = λ rule n. c.take_ended.ensures.noted rule (c.put_if_few.ensures.noted rule n)
+
+pub returns-clause-counts : goal.returns-clause-counts
+returns-clause-counts g c =
+    let m = g.W.Disk.meaning in
+    let put = c.put_if_few.ensures in
+    let ended = c.take_ended.ensures in
+    site_counts_on m c.args.self.now c.put_if_few.new.self c.take_ended.new.self ended.passes.passes.told.told
+    (site_counts_put m c.args.self.now c.put_if_few.new.self put.puts put.want) ended.counts

@@ -4,6 +4,7 @@ use Rattle.build_run.specs.Safe.{TurnsSafelyAs}
 use Rattle.build_run.proofs.Stopping.{site_rests}
 use Rattle.build_run.specs.Output.{TurnsPrinting}
 use Rattle.build_run.proofs.Printing.{quiet_around, quiet_turn}
+use Rattle.build_run.proofs.Endings.{counts_still}
 use Rattle.build_run.proofs.site.Site.take_turn.Goals as goal
 
 pub returns-in-Scan-clause-safe : goal.returns-in-Scan-clause-safe
@@ -37,3 +38,8 @@ pub returns-in-Rest-clause-printing : goal.returns-in-Rest-clause-printing
 returns-in-Rest-clause-printing g c =
     let m = g.W.Disk.meaning in
     quiet_turn m g.O.Sink.meaning _ _ _ _ (quiet_around m c.args.self.now c.args.self.now refl refl (λ e. e) (λ t. refl))
+
+pub returns-in-Rest-clause-counts : goal.returns-in-Rest-clause-counts
+returns-in-Rest-clause-counts g c =
+    let site = c.args.self.now in
+    counts_still g.W.Disk.meaning site.world.now site.account.now site.account.now (λ ample. ample)

@@ -7,6 +7,7 @@ use Rattle.build_run.proofs.Printing.{prints_on, quiet_prints, turn_prints}
 use Rattle.build_run.specs.Ledgers.{ledger_of}
 use Rattle.build_run.proofs.Causing.{wanted}
 use Rattle.build_run.proofs.Sites.{site_on}
+use Rattle.build_run.proofs.Endings.{counts_still, site_counts_on, site_counts_tell}
 use Rattle.build_run.proofs.site.Site.take_turns.Goals as goal
 
 pub loop-turn-preserved : goal.loop-turn-preserved
@@ -26,6 +27,9 @@ loop-turn-preserved g c =
       sound = tell.sound turn.sound;
       along = along_on m _ _ _ told.passes.told before.along
           (turn_along m _ _ _ _ tell.passes.passes.told turn.passes.same.options _ (c.want-wanted.ensures.wanted (search rules)) turn.along tell.along);
+      counts = site_counts_on m c.args.self.now c.take_turn-done.new.self c.tell.new.self tell.passes.passes.told.told
+          (site_counts_on m c.args.self.now c.loop-turn.self c.take_turn-done.new.self turn.passes.passes.told.told before.counts turn.counts)
+          (site_counts_tell m c.take_turn-done.new.self c.tell.new.self tell.still tell.want);
       safe = turns_on m _ _ _ before.passes.passes.told told.passes.told before.along before.safe
           (turn_then m _ _ _ tell.passes.passes.told (turn.safe (c.want-wanted.ensures.wanted (search rules))) tell.safe);
       printing = prints_on m g.O.Sink.meaning _ _ _ told.passes.told before.along before.printing
@@ -59,6 +63,7 @@ loop-turn-init g c = record {
       site_rests g.W.Disk.meaning g.met.W.Disk.only_now c.args.self.now c.args.self.now refl refl refl refl (λ unshut. unshut) s safe;
   reason = λ r. r;
   texts = λ start has. has;
+  counts = counts_still g.W.Disk.meaning c.args.self.now.world.now c.args.self.now.account.now c.args.self.now.account.now (λ ample. ample);
   noting = λ n. n;
 }
 
@@ -82,3 +87,10 @@ returns-clause-texts g c = λ start has. c.tell-2.ensures.texts start (c.loop-tu
 pub returns-clause-accounts : goal.returns-clause-accounts
 returns-clause-accounts g c = λ start a.
     c.tell-2.ensures.accounts start (wanted start (ledger_of c.loop-turn.self.account.now) _ (c.loop-turn.invariant.accounts start a))
+
+pub returns-clause-counts : goal.returns-clause-counts
+returns-clause-counts g c =
+    let m = g.W.Disk.meaning in
+    let last = c.tell-2.ensures in
+    site_counts_on m c.args.self.now c.loop-turn.self c.tell-2.new.self last.passes.passes.told.told c.loop-turn.invariant.counts
+    (site_counts_tell m c.loop-turn.self c.tell-2.new.self last.still last.want)

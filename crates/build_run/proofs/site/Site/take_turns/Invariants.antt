@@ -1,4 +1,5 @@
 use Rattle.build_run.specs.Along.{StaysAlong}
+use Rattle.build_run.specs.Endings.{SiteCounts}
 use Rattle.build_run.specs.FaultTexts.{SiteKeepsTold}
 use Rattle.build_run.specs.Output.{PrintsAlong}
 use Rattle.build_run.specs.Noted.{SiteStaysNoting}
@@ -20,4 +21,5 @@ invariant-loop-turn g l =
       reason : SiteKeepsReason l.fn.self l.self;
       texts : SiteKeepsTold g.E.Sink.meaning l.fn.self l.self;
       noting : SiteStaysNoting l.fn.self l.self;
+      counts : SiteCounts m l.fn.self l.self;
     }

@@ -8,6 +8,7 @@ use Rattle.build_run.proofs.Alongs.{along_on, turn_along, waits_halted}
 use Rattle.build_run.proofs.Printing.{quiet_around, quiet_on}
 use Rattle.build_run.proofs.Sites.{site_on}
 use Rattle.build_run.proofs.Stopping.{site_rests, site_safely_on}
+use Rattle.build_run.proofs.Endings.{counts_still, none_left, site_counts_on, site_counts_tell}
 use Rattle.build_run.proofs.site.Site.wait_for_all.Goals as goal
 
 pub loop-turn-preserved : goal.loop-turn-preserved
@@ -28,6 +29,9 @@ loop-turn-preserved g c =
           let told_mid = tell.passes.passes.told.told t in
           omega (arith, ending.takes.fewer told_mid, before.left (ending.passes.passes.told.told told_mid), ap (λ (busies : List Busy). length busies) tell.tickets);
       sound = tell.sound ending.sound;
+      counts = site_counts_on m c.args.self.now c.take_ending-event.new.self c.tell.new.self tell.passes.passes.told.told
+          (site_counts_on m c.args.self.now c.loop-turn.self c.take_ending-event.new.self ending.passes.passes.told.told before.counts ending.counts)
+          (site_counts_tell m c.take_ending-event.new.self c.tell.new.self tell.still tell.want);
       safe = site_safely_on m _ _ _ tell.passes.passes.told (site_safely_on m _ _ _ ending.passes.passes.told before.safe ending.safe) tell.safe;
       quiet = quiet_on m _ _ _ tell.passes.passes.told (quiet_on m _ _ _ ending.passes.passes.told before.quiet ending.quiet) tell.quiet;
       texts = λ start has. tell.texts start (ending.texts start (before.texts start has));
@@ -50,8 +54,15 @@ loop-turn-init g c = record {
   quiet = quiet_around g.W.Disk.meaning c.args.self.now c.args.self.now refl refl (λ e. e) (λ t. refl);
   reason = λ r. r;
   texts = λ start has. has;
+  counts = counts_still g.W.Disk.meaning c.args.self.now.world.now c.args.self.now.account.now c.args.self.now.account.now (λ ample. ample);
   noting = λ n. n;
   same = search rules;
   halted = search rules;
   along = search rules;
 }
+
+pub returns-after-loop-turn-clause-idle : goal.returns-after-loop-turn-clause-idle
+returns-after-loop-turn-clause-idle g c = λ t.
+    let is = c.loop-turn.invariant in
+    none_left c.loop-turn.self.run.now.tickets (g.W.Disk.meaning.around c.loop-turn.self.world.now).running
+    (omega (arith, is.left t, c.loop-turn-test.false, c.loop-turn.auto)) (is.sound.joined.runs t)

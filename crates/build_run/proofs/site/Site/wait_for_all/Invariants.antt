@@ -1,5 +1,6 @@
 use Rattle.std.proofs.Common.{◌≡◌, ◌≤◌, ◌+◌, true, length}
 use Rattle.build_run.specs.Along.{StaysAlong}
+use Rattle.build_run.specs.Endings.{SiteCounts}
 use Rattle.build_run.specs.FaultTexts.{SiteKeepsTold}
 use Rattle.build_run.specs.Output.{IsQuiet}
 use Rattle.build_run.specs.Noted.{SiteStaysNoting}
@@ -21,6 +22,7 @@ invariant-loop-turn g l =
       reason : SiteKeepsReason l.fn.self l.self;
       texts : SiteKeepsTold g.E.Sink.meaning l.fn.self l.self;
       noting : SiteStaysNoting l.fn.self l.self;
+      counts : SiteCounts m l.fn.self l.self;
       same : l._turn ≡ 0 → l.self ≡ l.fn.self;
       halted : l.fn.self.run.now.plan.halted ≡ true → l.self.run.now.plan.halted ≡ true;
       along : l.fn.self.run.now.plan.halted ≡ true → StaysAlong m l.fn.self l.self;
