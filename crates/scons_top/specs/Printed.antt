@@ -15,6 +15,7 @@ use Rattle.world_api.specs.Around.{Around}
 use Rattle.scons_report.specs.Cleaning.{IsCleanList, rules_numbered}
 use Rattle.build_run.specs.Output.{HasRunPrinting}
 use Rattle.build_run.specs.declared.end.BuildEnd.{BuildEnd}
+use Rattle.scons_words.specs.Readings.{read}
 use Rattle.scons_words.specs.declared.words.Words.{Words}
 use Rattle.scons_top.specs.declared.report.Report.{Report}
 use Rattle.scons_top.specs.declared.report.Top.{Top}
@@ -28,7 +29,7 @@ use Rattle.scons_top.specs.Asked.{asked_of, words_asked}
 use Rattle.scons_top.specs.Builds.{wanted_by}
 use Rattle.scons_top.specs.Cleaned.{targets_of}
 use Rattle.scons_top.specs.Requested.{AskForNodes, nodes_asked}
-use Rattle.scons_top.specs.RunLines.{progress, opening_text, options_of, closing_text, ending_text, removed_texts, rules_text, without}
+use Rattle.scons_top.specs.RunLines.{progress, notice, opening_text, options_of, closing_text, ending_text, list_text, removed_texts, request_text, without, AreMarks}
 use Rattle.scons_top.specs.Stops.{top_of}
 
 -- ---- texts on a sink
@@ -118,7 +119,7 @@ pub record IsListText (said : Words) (requests : List Request) (text : List ℕ)
   -- the graph as it grew by copies
   pub grown : RuleGraph
   pub rules : List RuleId
-  pub whole : text ≡ progress said building_text ++ (rules_text said grown rules ++ ending_text said grown requests rules [])
+  pub whole : text ≡ progress said building_text ++ list_text said grown requests rules
 
 -- or the last line alone, where a fault of the graph or of the files came
 pub record IsFaultyText (said : Words) (report : Report) (text : List ℕ) : Type 0 where
@@ -261,3 +262,28 @@ ServePrints m p said at g requests old out new new_out result =
 abbrev pub RunPrints : {W O : Type 0} → Meaning W → SinkMeaning O → Words → Step → W → O → W → O → Result Report Stop → Type 0
 RunPrints m p said at old out new new_out result =
     PrintsSuch p (Surely m said at new) (IsRunText m p said at old new result) (IsCut result) out new_out
+
+-- where the requested nodes are the graph's
+abbrev pub ServesPrinting : {W O : Type 0} → Meaning W → SinkMeaning O → Words → Step → RuleGraph → List Request → W → O → W → O → Result Report Stop → Type 0
+ServesPrinting m p said at g requests old out new new_out result = AskForNodes g requests → ServePrints m p said at g requests old out new new_out result
+
+-- where these words are read
+abbrev pub WordsPrint : {W O : Type 0} → Meaning W → SinkMeaning O → List (List ℕ) → Step → W → O → W → O → Result Report Stop → Type 0
+WordsPrint m p words at old out new new_out result = (said : Words) → read words ≡ Ok said → RunPrints m p said at old out new new_out result
+
+-- up to its report
+abbrev pub ReportPrints : {W O : Type 0} → Meaning W → SinkMeaning O → List (List ℕ) → W → O → W → O → Report → Type 0
+ReportPrints m p words old out new new_out report = WordsPrint m p words report.step old out new new_out (Ok report)
+
+-- behind a build, unless that lost its output
+abbrev pub EndsPrinting : {O T : Type 0} → SinkMeaning O → Words → RuleGraph → List Request → BuildEnd → O → O → Result T Stop → Type 0
+EndsPrinting p said g requests end old new result = PrintsUnless p (LosesOut end) (ending_text said g requests end.started end.faults) old new result
+
+-- as the targets of rules are removed
+abbrev pub CleansPrinting : {W O T : Type 0} → Meaning W → SinkMeaning O → Words → RuleGraph → List RuleId → W → O → W → O → Result T Stop → Type 0
+CleansPrinting m p said g rules old out new new_out result = RemovesPrinting m p said (targets_of (rules_numbered g rules)) old out new new_out result
+
+-- of one request, where marks say which rules were started
+abbrev pub RequestPrints : {O T : Type 0} → SinkMeaning O → Words → RuleGraph → Request → List Bool → O → O → Result T Stop → Type 0
+RequestPrints p said g request marks old new result =
+    (started : List RuleId) → AreMarks g started marks → PrintsUpTo p (notice said (request_text g started request)) old new result

@@ -9,7 +9,7 @@ ghost use Rattle.rule_graph.specs.Graphs.{RuleGraph};
 ghost use Rattle.sign_store.specs.Stores.{IsKept, is_live, HasMapOf};
 ghost use Rattle.scons_top.specs.Builds.{BeginsStore, RunBuilds};
 ghost use Rattle.scons_top.specs.Steps.{IsBuildingStep, LeavesAt, RunEndsAt, StopsAt};
-ghost use Rattle.scons_top.specs.Printed.{LosesOut, PrintsUnless, PrintsUpTo, ServePrints};
+ghost use Rattle.scons_top.specs.Printed.{EndsPrinting, LosesOut, PrintsUpTo, ServesPrinting};
 ghost use Rattle.scons_top.specs.RunLines.{ending_text};
 ghost use Rattle.scons_top.specs.Requested.{AskForNodes, GivesNodes, nodes_asked};
 ghost use Rattle.scons_top.specs.Stopping.{RunsSafely};
@@ -51,7 +51,7 @@ pub(crate) fn build_requests<W: World, O: Sink, E: Sink>(
     ensures leaves { LeavesAt W.meaning at.new world.old world.new }
     ensures passes { Passes W.meaning world.old world.new }
     ensures reports { Reports W.meaning O.meaning E.meaning world.old out.old err.old world.new out.new err.new result }
-    ensures prints { AskForNodes graph.old requests.now → ServePrints W.meaning O.meaning words.now at.new graph.old requests.now world.old out.old world.new out.new result }
+    ensures prints { ServesPrinting W.meaning O.meaning words.now at.new graph.old requests.now world.old out.old world.new out.new result }
     ensures tells { TellsOrStops E.meaning err.old err.new result }
     ensures idle { W.meaning.tells world.new → (W.meaning.around world.new).running ≡ [] }
     ensures late { IfErr result IsLateStop }
@@ -150,7 +150,7 @@ fn tell_end<O: Sink>(
     out: &mut O,
 ) -> Result<(), Stop>
     ensures step { SinkStep (O.meaning.faults out.old) (O.meaning.faults out.new) result }
-    ensures prints { PrintsUnless O.meaning (LosesOut end.now) (ending_text words.now graph.now requests.now end.now.started end.now.faults) out.old out.new result }
+    ensures prints { EndsPrinting O.meaning words.now graph.now requests.now end.now out.old out.new result }
 {
     if loses_out(end) {
         return Ok(());

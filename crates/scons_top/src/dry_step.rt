@@ -8,7 +8,7 @@ ghost use Rattle.scons_report.specs.Causes.{HasListCause};
 ghost use Rattle.sign_store.specs.Reached.{HasFaultCause};
 ghost use Rattle.scons_top.specs.Endings.{ListEnds, AddsUnprinted};
 ghost use Rattle.scons_top.specs.Printed.{FaultPrints, PrintsUpTo, ServePrints};
-ghost use Rattle.scons_top.specs.RunLines.{ending_text, line_by, rules_text};
+ghost use Rattle.scons_top.specs.RunLines.{line_by, list_text};
 ghost use Rattle.scons_top.specs.Steps.{ComesAt, IsListingStep, RunEndsAt};
 ghost use Rattle.scons_top.specs.Stops.{SinkReports, Reports, top_of};
 ghost use Rattle.scons_top.specs.Told.{TellsOrStops};
@@ -101,7 +101,7 @@ fn tell_rules<O: Sink>(
 ) -> Result<Report, Stop>
     ensures ends { RunEndsAt Step.Listing result }
     ensures reports { SinkReports O.meaning out.old out.new result }
-    ensures prints { PrintsUpTo O.meaning (rules_text words.now graph.now rules.now ++ ending_text words.now graph.now requests.now rules.now []) out.old out.new result }
+    ensures prints { PrintsUpTo O.meaning (list_text words.now graph.now requests.now rules.now) out.old out.new result }
     ensures faults { IfOk result (λ report. report.faults ≡ []) }
     ensures status { IfOk result (λ report. HasStatus report.status report.faults) }
 {
