@@ -6,7 +6,8 @@ ghost use Rattle.rule_graph.specs.Rules.{rule_of};
 ghost use Rattle.scons_top.specs.Faults.{IsEarly, IsEarlyStop, IsLate, IsLateStop, EarlyOnlyIf};
 ghost use Rattle.scons_base.specs.declared.ids.RuleId.{RuleId};
 ghost use Rattle.scons_top.specs.Endings.{ErrFinds, ErrEnds, ErrReports, AddsStopped, AddsUnwritten, Closes, ClosesWith};
-ghost use Rattle.scons_top.specs.Printed.{PrintsUpTo, RequestPrints};
+ghost use Rattle.scons_top.specs.Printed.{RequestPrints};
+ghost use Rattle.scons_top.specs.Sinks.{PrintsUpTo};
 ghost use Rattle.scons_top.specs.RunLines.{AreMarks, closing_text, goes_on, has_started, is_made_by, progress, requests_text};
 ghost use Rattle.scons_top.specs.Told.{IsLine, ShowsFirst, TellsFaults};
 ghost use Rattle.scons_top.specs.Steps.{AllComeAt, AllFoundAt, IsFaultOr, IsStopOr, IsTold, RunEndsAt, ReportsAt};
@@ -38,6 +39,7 @@ pub(crate) fn report(
 ) -> Report
     ensures at { result.step ≡ step }
     ensures faults { result.faults ≡ faults }
+    ensures skipped { result.skipped ≡ skipped }
     ensures status { HasStatus result.status result.faults }
     ensures memory { result.status ≢ 3 → memory ≡ false }
 {
@@ -88,6 +90,7 @@ pub(crate) fn ended<E: Sink>(alloc: Global, stop: Stop, step: Step, err: &mut E)
     ensures early { EarlyOnlyIf (IsEarlyStop stop) result.faults }
     ensures status { HasStatus result.status result.faults }
     ensures fails { result.status ≢ 0 }
+    ensures skipped { result.skipped ≡ [] }
     ensures causes { ErrEnds E.meaning stop err.old err.new result }
     ensures tells { TellsFaults E.meaning err.old err.new result }
 {
@@ -118,6 +121,7 @@ fn kept<E: Sink>(
     ensures early { EarlyOnlyIf (IsEarly fault) result.faults }
     ensures status { HasStatus result.status result.faults }
     ensures fails { result.status ≢ 0 }
+    ensures skipped { result.skipped ≡ [] }
     ensures causes { ErrReports E.meaning fault err.old err.new result }
     ensures tells { IfOk text (λ t. IsLine fault (string_bytes t)) → TellsFaults E.meaning err.old err.new result }
 {
@@ -311,6 +315,7 @@ pub(crate) fn closed(
     ensures causes { Closes found memory written result }
     ensures whole { result.status ≢ 3 → memory ≡ false }
     ensures list { result.status ≢ 3 → ClosesWith found written result.faults }
+    ensures skipped { result.skipped ≡ skipped }
 {
     let mut faults = Listing::empty(alloc);
     let lacks = add_all(&mut faults, found);
