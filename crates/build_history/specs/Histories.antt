@@ -43,15 +43,15 @@ EndsByContent w map old new behind did = GoesByContent w did.kept did.left (arou
     IsCleanly w did.kept did.left (around_in new) did.succeeded.runs.steps
 
 -- a run built so, where it answers status 0
-pub record IsClean (said : Words) (old new : MemWorld) (status : ℕ) : Type 0 where
-  pub built : HasBuilt world_meaning said old new status
-  pub clean : (zero : status ≡ 0) →
+pub record IsClean (said : Words) (old new : MemWorld) (report : Report) : Type 0 where
+  pub built : HasBuilt world_meaning said old new report
+  pub clean : (zero : report.status ≡ 0) →
       EndsByContent (wanted_by said built.graph built.requested) (image_in (seen_in old)) old new built.kept (built.succeeds zero)
 
 -- so does each that these words ask for, in a history from a world that tells the truth
 abbrev pub EndsClean : MemWorld → List (List ℕ) → MemWorld → MemWorld → Report → Type 0
 EndsClean first words old new report = IsTrueWorld first → (said : Words) → read words ≡ Ok said → AskForBuild said →
-    report.status ≡ 0 → IsClean said old new report.status
+    report.status ≡ 0 → IsClean said old new report
 
 -- ---- one event
 

@@ -23,12 +23,13 @@ use Rattle.build_means.specs.Rules.{rules_in}
 use Rattle.build_files.specs.Beginnings.{BeginsBehind}
 use Rattle.build_files.specs.Kept.{past, AreTrue}
 use Rattle.build_files.specs.Marked.{is_marked}
+use Rattle.world_api.specs.Meaning.{Meaning}
 use Rattle.world_api.specs.Printed.{SinkMeaning}
 use Rattle.task_plan.specs.Plans.{IsIdle}
 use Rattle.scons_report.specs.declared.tree_end.TreeEnd.{TreeEnd}
 use Rattle.scons_report.specs.Asked.{children_asked}
 use Rattle.scons_report.specs.Walks.{PrintsTree}
-use Rattle.scons_report.specs.Built.{ShownTrees, IsBehind, made_by, made_of, IsShown, on_top, below, IsShownBy}
+use Rattle.scons_report.specs.Built.{Plans, ShowsBuilds, IsBehind, made_by, made_of, IsShown, on_top, below, IsShownBy}
 use Rattle.scons_report.specs.Overs.{IsOutset, IsOver}
 use Rattle.scons_report.specs.Trees.{children_of, deps_at, shown_in, tree_text}
 use Rattle.scons_report.proofs.Finished.{kn, s, deps_are, IsMetNode, need_met, asked_met, path_rule, no_loop}
@@ -137,15 +138,14 @@ outset_behind b g inputs around truth unmarked idle none = record {
 }
 
 -- what is printed, or why nothing is
-pub shown_trees : {O T : Type 0} (m : SinkMeaning O) (b : Begun) (t : Tree) (g : RuleGraph) (word : List ℕ) (nodes : List NodeId) (is_node : Bool) (old new : O)
-    (plan : Planned) → IsShownBy b t g nodes plan → (r : Result T TreeEnd) → IsIdle plan →
-    PrintsTree m (tree_text (shown_in g plan) word (children_asked g plan is_node nodes)) old new r →
-    ShownTrees {T = T} m b t g word nodes is_node old new r
-shown_trees m b t g word nodes is_node old new plan shown (Ok v) idle prints = record { tree = record { plan = plan; idle = idle; prints = prints }; shown = shown }
-shown_trees m b t g word nodes is_node old new plan shown (Err e) idle prints =
-    inl (record { tree = record { plan = plan; idle = idle; prints = prints }; shown = shown })
+module _ {W O T : Type 0} (m : Meaning W) (s : SinkMeaning O) (g h : RuleGraph) (declared : ℕ) (word : List ℕ) (nodes : List NodeId) (is_node : Bool)
+    (world after : W) (old : O) where
+  pub shown_tree : (new : O) (plan : Planned) → Plans m g declared nodes world h after plan → (r : Result T TreeEnd) → IsIdle plan →
+      PrintsTree s (tree_text (shown_in h plan) word (children_asked h plan is_node nodes)) old new r →
+      ShowsBuilds {T = T} m s g h declared word nodes is_node world after old new r
+  shown_tree new plan plans (Ok v) idle prints = record { tree = record { plan = plan; idle = idle; prints = prints }; plans = plans }
+  shown_tree new plan plans (Err e) idle prints = inl (record { tree = record { plan = plan; idle = idle; prints = prints }; plans = plans })
 
-pub shown_none : {O T : Type 0} (P : TreeEnd → Type 0) (m : SinkMeaning O) (b : Begun) (t : Tree) (g : RuleGraph) (word : List ℕ) (nodes : List NodeId) (is_node : Bool)
-    (old : O) (r : Result T TreeEnd) → IsErrAnd r P → ShownTrees {T = T} m b t g word nodes is_node old old r
-shown_none P m b t g word nodes is_node old (Ok v) is = absurd is
-shown_none P m b t g word nodes is_node old (Err e) is = inr refl
+  pub shown_none : (P : TreeEnd → Type 0) (r : Result T TreeEnd) → IsErrAnd r P → ShowsBuilds {T = T} m s g h declared word nodes is_node world after old old r
+  shown_none P (Ok v) is = absurd is
+  shown_none P (Err e) is = inr refl

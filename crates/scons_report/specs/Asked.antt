@@ -1,5 +1,5 @@
 -- The tree that stands for a word, and why one isn't printed to its end.
-use Rattle.std.specs.Prelude.{◌≡◌, ◌⊎◌, ℕ, Bool, true, false, List, [], ◌∷◌, Result, Ok, Err}
+use Rattle.std.specs.Prelude.{◌≡◌, ℕ, Bool, true, false, List, [], ◌∷◌, Result, Ok, Err}
 use Rattle.scons_base.specs.declared.ids.NodeId.{NodeId}
 use Rattle.scons_base.specs.Rising.{Rose}
 use Rattle.rule_graph.specs.Graphs.{RuleGraph}
@@ -25,11 +25,6 @@ pub record TreeOf {O T : Type 0} (m : SinkMeaning O) (g : RuleGraph) (word : Lis
   pub plan : Planned
   pub idle : IsIdle plan
   pub prints : PrintsTree m (tree_text (shown_in g plan) word (children_asked g plan is_node nodes)) old new result
-
--- where the files weren't looked at to their end, nothing was
-abbrev pub TreesOf : {O T : Type 0} → SinkMeaning O → RuleGraph → List ℕ → List NodeId → Bool → O → O → Result T TreeEnd → Type 0
-TreesOf m g word nodes is_node old new (Ok value) = TreeOf m g word nodes is_node old new (Ok value)
-TreesOf {T = T} m g word nodes is_node old new (Err e) = TreeOf {T = T} m g word nodes is_node old new (Err e) ⊎ (new ≡ old)
 
 -- a fault of the sink comes only where its count rose, one of the files only where that of the tree did
 abbrev pub HasTreeCause : {T : Type 0} → Counts → Counts → ℕ → ℕ → Result T TreeEnd → Type 0

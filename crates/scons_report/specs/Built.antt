@@ -52,24 +52,20 @@ pub record IsShownBy (b : Begun) (t : Tree) (g : RuleGraph) (nodes : List NodeId
   pub no_cycle : (r : Rule) → Needed (begun_setting b).rule_of (found_in (begun_setting b) (in_tree t)) (paths_of g nodes) r →
       NeedsThrough (begun_setting b).rule_of (found_in (begun_setting b) (in_tree t)) r r → ⊥
 
--- The tree that is printed, or a front of it, shows what a build over these files goes by.
-pub record ShownTree {O T : Type 0} (m : SinkMeaning O) (b : Begun) (t : Tree) (g : RuleGraph) (word : List ℕ) (nodes : List NodeId)
-    (is_node : Bool) (old new : O) (result : Result T TreeEnd) : Type 0 where
-  pub tree : TreeOf {T = T} m g word nodes is_node old new result
-  pub shown : IsShownBy b t g nodes tree.plan
-
--- where the files weren't looked at to their end, nothing was printed
-abbrev pub ShownTrees : {O T : Type 0} → SinkMeaning O → Begun → Tree → RuleGraph → List ℕ → List NodeId → Bool → O → O → Result T TreeEnd → Type 0
-ShownTrees m b t g word nodes is_node old new (Ok value) = ShownTree m b t g word nodes is_node old new (Ok value)
-ShownTrees {T = T} m b t g word nodes is_node old new (Err e) = ShownTree {T = T} m b t g word nodes is_node old new (Err e) ⊎ (new ≡ old)
-
--- So it is in a world that tells, whatever build it stands behind.
-abbrev pub ShowsBuilds : {W O T : Type 0} → Meaning W → SinkMeaning O → RuleGraph → RuleGraph → ℕ → List ℕ → List NodeId → Bool → W → W → O → O → Result T TreeEnd → Type 0
-ShowsBuilds {T = T} m s g h declared word nodes is_node world after old new result =
-    m.tells after → are_below (length g.nodes) nodes ≡ true → (b : Begun) → IsBehind b g declared (m.around world) →
-    ShownTrees {T = T} s b (m.around world).tree h word nodes is_node old new result
-
 -- A plan of these nodes shows what a build goes by, whatever build it stands behind.
 abbrev pub Plans : {W : Type 0} → Meaning W → RuleGraph → ℕ → List NodeId → W → RuleGraph → W → Planned → Type 0
 Plans m g declared nodes world h after plan = m.tells after → are_below (length g.nodes) nodes ≡ true → (b : Begun) →
     IsBehind b g declared (m.around world) → IsShownBy b (m.around world).tree h nodes plan
+
+-- The tree of a word is printed, or a front of it, and by its plan it shows what a build goes by.
+pub record ShownTree {W O T : Type 0} (m : Meaning W) (s : SinkMeaning O) (g h : RuleGraph) (declared : ℕ) (word : List ℕ) (nodes : List NodeId)
+    (is_node : Bool) (world after : W) (old new : O) (result : Result T TreeEnd) : Type 0 where
+  pub tree : TreeOf {T = T} s h word nodes is_node old new result
+  pub plans : Plans m g declared nodes world h after tree.plan
+
+-- Where the files weren't looked at to their end, nothing is printed.
+abbrev pub ShowsBuilds : {W O T : Type 0} → Meaning W → SinkMeaning O → RuleGraph → RuleGraph → ℕ → List ℕ → List NodeId → Bool → W → W → O → O → Result T TreeEnd → Type 0
+ShowsBuilds m s g h declared word nodes is_node world after old new (Ok value) =
+    ShownTree m s g h declared word nodes is_node world after old new (Ok value)
+ShowsBuilds {T = T} m s g h declared word nodes is_node world after old new (Err e) =
+    ShownTree {T = T} m s g h declared word nodes is_node world after old new (Err e) ⊎ (new ≡ old)

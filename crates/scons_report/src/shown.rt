@@ -1,6 +1,6 @@
 //! The tree of a request, over the files as they are.
 ghost use Rattle.std.specs.Prelude.{◌≡◌, IfOk};
-ghost use Rattle.scons_report.specs.Asked.{children_asked, HasTreeCause, TreesOf};
+ghost use Rattle.scons_report.specs.Asked.{children_asked, HasTreeCause};
 ghost use Rattle.scons_report.specs.Built.{Plans, ShowsBuilds};
 ghost use Rattle.scons_report.specs.Causes.{HasListCause};
 ghost use Rattle.task_plan.specs.Plans.{IsIdle};
@@ -33,7 +33,6 @@ pub fn tree_text<W: World, O: Sink>(
 ) -> Result<(), TreeEnd>
     ensures looks { Looks W.meaning world.old world.new }
     ensures cause { HasTreeCause (W.meaning.counts world.old) (W.meaning.counts world.new) (O.meaning.faults out.old) (O.meaning.faults out.new) result }
-    ensures prints { TreesOf O.meaning graph.new request.now nodes.now is_node out.old out.new result }
     ensures shows { ShowsBuilds W.meaning O.meaning graph.old graph.new declared request.now nodes.now is_node world.old world.new out.old out.new result }
 {
     let plan = plan_of(alloc, graph, declared, nodes, world)?;

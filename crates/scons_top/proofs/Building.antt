@@ -1,6 +1,6 @@
 -- What a run built, told of the world as the run found it.
 use Rattle.std.proofs.Common.{◌≡◌, ◌∙◌, inl, inr, refl, sym, subst, ap, ℕ, Bool, List, [], length, true, false, Some}
-use Rattle.std.specs.Prelude.{Result, Ok, Err, IsErrAnd}
+use Rattle.std.specs.Prelude.{◌≢◌, All, Contains, Result, Ok, Err, IsErrAnd}
 use Rattle.std.proofs.lemmas.Bool.{false≢true}
 use Rattle.scons_base.specs.Rising.{Rose}
 use Rattle.scons_base.specs.declared.ids.NodeId.{NodeId}
@@ -17,9 +17,10 @@ use Rattle.rule_graph.specs.Rules.{are_below}
 use Rattle.sign_store.specs.Ends.{image_in}
 use Rattle.sign_store.specs.Images.{image_of}
 use Rattle.sign_store.specs.Tables.{Map}
+use Rattle.build_model.specs.Rules.{Path}
 use Rattle.build_means.specs.Builds.{Wanted, KeepsRecords, Rests, Runs, Succeeded, setting_in}
 use Rattle.build_files.proofs.Left.{none_runs}
-use Rattle.build_run.specs.Outsets.{AreRight, GoesByContent, HasRun, HasSucceeded, IsCleanly, LeavesRest, StandFor, BuildRuns, BuildSucceeds}
+use Rattle.build_run.specs.Outsets.{AreRight, GoesByContent, HasRun, HasSucceeded, IsCleanly, LeavesRest, StandFor, BuildSucceeds}
 use Rattle.build_run.specs.Takes.{IsLeftAt}
 use Rattle.build_run.specs.Truth.{TellsTruth}
 use Rattle.build_run.specs.declared.end.BuildEnd.{BuildEnd}
@@ -30,6 +31,14 @@ use Rattle.scons_top.specs.Stopping.{RunsSafely}
 use Rattle.scons_top.specs.Watching.{Watches}
 use Rattle.scons_top.specs.declared.report.Report.{Report}
 use Rattle.scons_top.specs.declared.stop.Stop.{Stop}
+use Rattle.scons_top.specs.declared.report.Top.{Top}
+use Rattle.scons_top.specs.Stops.{top_of}
+use Rattle.build_run.specs.Causes.{HasAny}
+use Rattle.build_run.specs.Reasons.{EndsForReason, HasLast, IsLast}
+use Rattle.build_run.specs.Skips.{AreSkips, HasSkipped}
+use Rattle.build_run.specs.declared.building.Options.{Options}
+use Rattle.rule_graph.specs.declared.build_fault.BuildFault.{BuildFault}
+use Rattle.scons_top.specs.RunLines.{options_of}
 use Rattle.scons_top.proofs.Causing.{rose_on}
 
 -- looks
@@ -48,8 +57,14 @@ records_kept m a b kept =
 
 -- what was done, from what was around, the counts and the records
 
+-- a run of a build, with what it skipped
+pub record SkipsBy {W : Type 0} (m : Meaning W) (w : Wanted) (map : Map) (old new : W) (behind : Map) (ended : Bool) (found : List BuildFault)
+    (skipped : List (Path × Path)) : Type 0 where
+  pub run : HasRun m w map old new behind ended
+  pub skips : ended ≡ false → AreSkips w run.kept run.left (m.around new) run.runs.steps found skipped
+
 record RanFrom {W : Type 0} (m : Meaning W) (w : Wanted) (map : Map) (start : Around) (counts : Counts) (new : W)
-    (behind : Map) (ended : Bool) (truth : Type 0) : Type 0 where
+    (behind : Map) (ended : Bool) (found : List BuildFault) (skipped : List (Path × Path)) (truth : Type 0) : Type 0 where
   left : Around
   kept : Map
   rest : LeavesRest (IsLeftAt w.graph start map) start map left kept
@@ -58,6 +73,7 @@ record RanFrom {W : Type 0} (m : Meaning W) (w : Wanted) (map : Map) (start : Ar
   rests : ended ≡ false → Rests w kept left (m.around new) runs.steps
   stored : ended ≡ false → StandFor m new behind
   right : truth → GoesByContent w kept left (m.around new) → AreRight w kept left (m.around new) runs.steps
+  skips : ended ≡ false → AreSkips w kept left (m.around new) runs.steps found skipped
 
 record SucceededFrom {W : Type 0} (m : Meaning W) (w : Wanted) (map : Map) (start : Around) (counts : Counts) (new : W)
     (behind : Map) (truth : Type 0) : Type 0 where
@@ -76,10 +92,12 @@ module _ {W : Type 0} (m : Meaning W) (w : Wanted) (before after : Map) (a b new
       subst (λ x. TellsTruth m (setting_in w x) b) (sym around)
       (safe (setting_in w (m.around a)) (λ tells sure. record { acts = refl; digests = refl }) told).now
 
-  pub run_back : RunsSafely m a b → (ended : Bool) → HasRun m w after b new behind ended → HasRun m w before a new behind ended
-  run_back safe ended h =
+  pub run_back : RunsSafely m a b → (ended : Bool) (found : List BuildFault) (skipped : List (Path × Path))
+      → SkipsBy m w after b new behind ended found skipped → SkipsBy m w before a new behind ended found skipped
+  run_back safe ended found skipped by =
+      let h = by.run in
       let truth = TellsTruth m (setting_in w (m.around b)) b in
-      let r : RanFrom m w after (m.around b) (m.counts b) new behind ended truth =
+      let r : RanFrom m w after (m.around b) (m.counts b) new behind ended found skipped truth =
       record {
         left = h.left;
         kept = h.kept;
@@ -89,19 +107,23 @@ module _ {W : Type 0} (m : Meaning W) (w : Wanted) (before after : Map) (a b new
         rests = h.rests;
         stored = h.stored;
         right = h.right;
+        skips = by.skips;
       } in
-      let one = subst (λ x. RanFrom m w after x (m.counts b) new behind ended truth) around r in
-      let two = subst (λ c. RanFrom m w after (m.around a) c new behind ended truth) counts one in
-      let back = subst (λ (map : Map). RanFrom m w map (m.around a) (m.counts a) new behind ended truth) records two in
+      let one = subst (λ x. RanFrom m w after x (m.counts b) new behind ended found skipped truth) around r in
+      let two = subst (λ c. RanFrom m w after (m.around a) c new behind ended found skipped truth) counts one in
+      let back = subst (λ (map : Map). RanFrom m w map (m.around a) (m.counts a) new behind ended found skipped truth) records two in
       record {
-        left = back.left;
-        kept = back.kept;
-        rest = back.rest;
-        runs = back.runs;
-        records = back.records;
-        rests = back.rests;
-        stored = back.stored;
-        right = λ told. back.right (truth_on safe told);
+        run = record {
+          left = back.left;
+          kept = back.kept;
+          rest = back.rest;
+          runs = back.runs;
+          records = back.records;
+          rests = back.rests;
+          stored = back.stored;
+          right = λ told. back.right (truth_on safe told);
+        };
+        skips = back.skips;
       }
 
   pub success_back : RunsSafely m a b → HasSucceeded m w after b new behind → HasSucceeded m w before a new behind
@@ -138,7 +160,7 @@ stand_looked m a b map same stands banks image = stands banks (λ bank. (same ba
 
 -- what was done, up to what is around and the count of the disk
 record RanTo {W : Type 0} (m : Meaning W) (w : Wanted) (map : Map) (old : W) (end : Around) (disk : ℕ) (behind : Map) (ended : Bool)
-    : Type 0 where
+    (found : List BuildFault) (skipped : List (Path × Path)) : Type 0 where
   left : Around
   kept : Map
   rest : LeavesRest (IsLeftAt w.graph (m.around old) map) (m.around old) map left kept
@@ -146,6 +168,7 @@ record RanTo {W : Type 0} (m : Meaning W) (w : Wanted) (map : Map) (old : W) (en
   records : (Rose (m.counts old).disk_faults disk → ⊥) → KeepsRecords w kept left end runs.steps behind
   rests : ended ≡ false → Rests w kept left end runs.steps
   right : TellsTruth m (setting_in w (m.around old)) old → GoesByContent w kept left end → AreRight w kept left end runs.steps
+  skips : ended ≡ false → AreSkips w kept left end runs.steps found skipped
 
 record SucceededTo {W : Type 0} (m : Meaning W) (w : Wanted) (map : Map) (old : W) (end : Around) (behind : Map) : Type 0 where
   left : Around
@@ -157,22 +180,27 @@ record SucceededTo {W : Type 0} (m : Meaning W) (w : Wanted) (map : Map) (old : 
 
 module _ {W : Type 0} (m : Meaning W) (w : Wanted) (map : Map) (old a b : W) (behind : Map)
     (around : m.around b ≡ m.around a) (same : BanksKept m a b) where
-  pub run_on : Later (m.counts a) (m.counts b) → (ended : Bool) → HasRun m w map old a behind ended → HasRun m w map old b behind ended
-  run_on later ended h =
+  pub run_on : Later (m.counts a) (m.counts b) → (ended : Bool) (found : List BuildFault) (skipped : List (Path × Path))
+      → SkipsBy m w map old a behind ended found skipped → SkipsBy m w map old b behind ended found skipped
+  run_on later ended found skipped by =
+      let h = by.run in
       let first = (m.counts old).disk_faults in
       let disk = (m.counts a).disk_faults in
-      let r : RanTo m w map old (m.around a) disk behind ended =
-      record { left = h.left; kept = h.kept; rest = h.rest; runs = h.runs; records = h.records; rests = h.rests; right = h.right } in
-      let on = subst (λ x. RanTo m w map old x disk behind ended) (sym around) r in
+      let r : RanTo m w map old (m.around a) disk behind ended found skipped =
+      record { left = h.left; kept = h.kept; rest = h.rest; runs = h.runs; records = h.records; rests = h.rests; right = h.right; skips = by.skips } in
+      let on = subst (λ x. RanTo m w map old x disk behind ended found skipped) (sym around) r in
       record {
-        left = on.left;
-        kept = on.kept;
-        rest = on.rest;
-        runs = on.runs;
-        records = λ none. on.records (λ rose. none (rose_on first disk (m.counts b).disk_faults rose later.disk));
-        rests = on.rests;
-        stored = λ is. stand_looked m a b behind same (h.stored is);
-        right = on.right;
+        run = record {
+          left = on.left;
+          kept = on.kept;
+          rest = on.rest;
+          runs = on.runs;
+          records = λ none. on.records (λ rose. none (rose_on first disk (m.counts b).disk_faults rose later.disk));
+          rests = on.rests;
+          stored = λ is. stand_looked m a b behind same (h.stored is);
+          right = on.right;
+        };
+        skips = on.skips;
       }
 
   pub success_on : HasSucceeded m w map old a behind → HasSucceeded m w map old b behind
@@ -190,60 +218,87 @@ module _ {W : Type 0} (m : Meaning W) (w : Wanted) (map : Map) (old a b : W) (be
         clean = on.clean;
       }
 
-pub built_looked : {W : Type 0} (m : Meaning W) (said : Words) (old a b : W) (status : ℕ) → Watches m a b → m.tells b
-    → (m.around a).running ≡ [] → HasBuilt m said old a status → HasBuilt m said old b status
-built_looked m said old a b status watches told idle h =
+-- the same build of another run
+
+pub built_looked : {W : Type 0} (m : Meaning W) (said : Words) (old a b : W) (report : Report) → Watches m a b → m.tells b
+    → (m.around a).running ≡ [] → HasBuilt m said old a report → HasBuilt m said old b report
+built_looked m said old a b report watches told idle h =
     let w = wanted_by said h.graph h.requested in
     let map = image_in (m.seen old) in
     let around = around_asked (m.around a) (m.around b) idle (watches.looks.around told) in
     let same = watches.looks.banks told in
+    let on = run_on m w map old a b h.kept around same watches.later h.is_ended h.found report.skipped (record { run = h.runs; skips = h.skips }) in
     record {
       graph = h.graph;
       requested = h.requested;
       are_nodes = h.are_nodes;
       kept = h.kept;
       is_ended = h.is_ended;
-      runs = run_on m w map old a b h.kept around same watches.later h.is_ended h.runs;
+      runs = on.run;
       succeeds = λ well. success_on m w map old a b h.kept around same (h.succeeds well);
+      found = h.found;
+      reported = h.reported;
+      goes_on = h.goes_on;
+      skips = on.skips;
     }
 
-pub built_back : {W : Type 0} (m : Meaning W) (said : Words) (a b new : W) (status : ℕ) → m.around b ≡ m.around a → m.counts b ≡ m.counts a
-    → image_in (m.seen b) ≡ image_in (m.seen a) → RunsSafely m a b → HasBuilt m said b new status → HasBuilt m said a new status
-built_back m said a b new status around counts records safe h =
+pub built_back : {W : Type 0} (m : Meaning W) (said : Words) (a b new : W) (report : Report) → m.around b ≡ m.around a → m.counts b ≡ m.counts a
+    → image_in (m.seen b) ≡ image_in (m.seen a) → RunsSafely m a b → HasBuilt m said b new report → HasBuilt m said a new report
+built_back m said a b new report around counts records safe h =
     let w = wanted_by said h.graph h.requested in
     let before = image_in (m.seen a) in
     let after = image_in (m.seen b) in
+    let back = run_back m w before after a b new h.kept around counts records safe h.is_ended h.found report.skipped (record { run = h.runs; skips = h.skips }) in
     record {
       graph = h.graph;
       requested = h.requested;
       are_nodes = h.are_nodes;
       kept = h.kept;
       is_ended = h.is_ended;
-      runs = run_back m w before after a b new h.kept around counts records safe h.is_ended h.runs;
+      runs = back.run;
       succeeds = λ well. success_back m w before after a b new h.kept around counts records safe (h.succeeds well);
+      found = h.found;
+      reported = h.reported;
+      goes_on = h.goes_on;
+      skips = back.skips;
     }
+
+-- a fault after which nothing new starts
+last_told : (memory : Bool) (faults : List BuildFault) → memory ≡ false → HasLast memory faults → HasAny IsLast faults
+last_told memory faults none (inl wanting) = absurd (false≢true (sym none ∙ wanting))
+last_told memory faults none (inr has) = has
 
 -- a build behind the beginning of its store
 pub build_done : {W : Type 0} (m : Meaning W) (said : Words) (g : RuleGraph) (requested : List NodeId) (store : Map)
-    (old begun new : W) (behind : Map) (answer : BuildEnd) (status : ℕ)
+    (old begun new : W) (behind : Map) (answer : BuildEnd) (report : Report)
     → BeginsStore m old begun → RunsSafely m old begun → m.tells begun → m.counts begun ≡ m.counts old → store ≡ image_in (m.seen old)
-    → are_below (length g.nodes) requested ≡ true → (status ≡ 0 → (answer.faults ≡ []) × (answer.memory ≡ false))
-    → m.tells new → m.sure new → BuildRuns m (wanted_by said g requested) store begun new behind answer
-    → BuildSucceeds m (wanted_by said g requested) store begun new behind answer → HasBuilt m said old new status
-build_done m said g requested store old begun new behind answer status begins safe told counts records nodes well tells sure runs
-    succeeds =
+    → are_below (length g.nodes) requested ≡ true → (report.status ≡ 0 → (answer.faults ≡ []) × (answer.memory ≡ false))
+    → (report.status ≢ 3 → answer.memory ≡ false) → (report.status ≢ 3 → All (λ f. Contains report.faults (top_of f)) answer.faults)
+    → report.skipped ≡ answer.skipped → EndsForReason (options_of said) answer
+    → m.tells new → m.sure new → (m.tells new → m.sure new → are_below (length g.nodes) requested ≡ true → HasSkipped m (wanted_by said g requested) store begun new behind answer)
+    → BuildSucceeds m (wanted_by said g requested) store begun new behind answer → HasBuilt m said old new report
+build_done m said g requested store old begun new behind answer report begins safe told counts records nodes well memory reported
+    skipped reason tells sure skips succeeds =
     let w = wanted_by said g requested in
     let before = image_in (m.seen old) in
     let around = begins.around told in
+    let ran = skips tells sure nodes in
+    let by = subst (λ (pairs : List (Path × Path)). SkipsBy m w store begun new behind answer.is_ended answer.faults pairs) (sym skipped)
+    (record { run = ran.run; skips = ran.skips }) in
+    let back = run_back m w before store old begun new behind around counts records safe answer.is_ended answer.faults report.skipped by in
     record {
       graph = g;
       requested = requested;
       are_nodes = nodes;
       kept = behind;
       is_ended = answer.is_ended;
-      runs = run_back m w before store old begun new behind around counts records safe answer.is_ended (runs tells sure nodes);
+      runs = back.run;
       succeeds = λ zero. success_back m w before store old begun new behind around counts records safe
           (succeeds (well zero).0 (well zero).1 tells sure nodes);
+      found = answer.faults;
+      reported = reported;
+      goes_on = λ ne keep is. last_told answer.memory answer.faults (memory ne) (reason keep is);
+      skips = back.skips;
     }
 
 -- a run that had looked before
@@ -256,7 +311,7 @@ ends_looked m a b new looks (inr begun) =
 steps_looked : {W : Type 0} (m : Meaning W) (said : Words) (a b new : W) (r : Result Report Stop) → Looks m a b → m.tells b
     → (m.around a).running ≡ [] → m.counts b ≡ m.counts a → RunsSafely m a b → BuildsOrStops m said b new r → BuildsOrStops m said a new r
 steps_looked m said a b new (Ok report) looks told idle counts safe built =
-    built_back m said a b new report.status (around_asked (m.around a) (m.around b) idle (looks.around told)) counts
+    built_back m said a b new report (around_asked (m.around a) (m.around b) idle (looks.around told)) counts
     (records_kept m a b (looks.banks told)) safe built
 steps_looked m said a b new (Err stop) looks told idle counts safe ends = ends_looked m a b new looks ends
 

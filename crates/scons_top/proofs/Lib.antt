@@ -15,3 +15,5 @@ mod Printing
 mod Removing
 mod Serving
 mod Telling
+mod Listing
+mod Treeing

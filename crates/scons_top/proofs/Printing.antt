@@ -11,7 +11,8 @@ use Rattle.std.specs.Prelude.{Result, Ok, Err, IsErrAnd}
 use Rattle.world_api.specs.Printed.{SinkMeaning}
 use Rattle.world_api.specs.Printing.{IsPrefixed, Prints, PrintsSome, Cuts}
 use Rattle.scons_host.specs.Prints.{Prints as HostPrints}
-use Rattle.scons_top.specs.Printed.{Printed, PrintsUpTo, PrintsUnless, IsPrintedOf, PrintsSuch, IsCutBy, ReadPrints, IsReadText, IsOpeningText}
+use Rattle.scons_top.specs.Printed.{ReadPrints, IsReadText, IsOpeningText}
+use Rattle.scons_top.specs.Sinks.{Printed, PrintsUpTo, PrintsUnless, IsPrintedOf, PrintsSuch, IsCutBy}
 use Rattle.scons_top.specs.RunLines.{line_by, progress}
 use Rattle.report_texts.specs.Texts.{reading_text, read_text}
 use Rattle.scons_top.specs.declared.stop.Stop.{Stop}

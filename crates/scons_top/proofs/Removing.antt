@@ -21,7 +21,8 @@ use Rattle.world_api.specs.Printed.{SinkMeaning}
 use Rattle.report_texts.specs.Texts.{removed_text}
 use Rattle.scons_words.specs.declared.words.Words.{Words}
 use Rattle.scons_top.specs.Cleaned.{targets_of, Cleared, AreRemoved}
-use Rattle.scons_top.specs.Printed.{PrintsSuch, PrintsUpTo, IsCutBy, IsRemovedFront, RemovesPrinting, LeavesBy, left_by, there_in}
+use Rattle.scons_top.specs.Printed.{IsRemovedFront, RemovesPrinting, LeavesBy, left_by, there_in}
+use Rattle.scons_top.specs.Sinks.{PrintsSuch, PrintsUpTo, IsCutBy}
 use Rattle.scons_top.specs.RunLines.{notice, removed_texts, without}
 use Rattle.scons_top.specs.Watching.{Watches}
 use Rattle.scons_top.specs.declared.stop.Stop.{Stop}

@@ -1,8 +1,8 @@
 -- What stands printed of a build, and of a run that opened before it.
 use Rattle.std.proofs.Common.{◌≡◌, ◌≢◌, ◌∙◌, ◌⊎◌, inl, inr, sym, subst, refl, ap, ℕ, Bool, true, false, List, [], ◌∷◌, ◌++◌, Contains, length, map, append_assoc, arith}
-use Rattle.std.specs.Prelude.{◌==◌, Option, Some, IfOk, IfSome, Result, Ok, Err, IsErrAnd}
+use Rattle.std.specs.Prelude.{◌==◌, All, Option, Some, IfOk, IfSome, Result, Ok, Err, IsErrAnd}
 use Rattle.std.proofs.lemmas.Bool.{false≢true, eqb-true}
-use Rattle.std.proofs.lemmas.List.Elements.{Contains-append_left, Contains-push}
+use Rattle.std.proofs.lemmas.List.Elements.{All-contains_itself, All-nil, All-weaker, Contains-append_left, Contains-push}
 use Rattle.scons_base.specs.declared.ids.NodeId.{NodeId}
 use Rattle.scons_base.specs.declared.ids.RuleId.{RuleId}
 use Rattle.world_api.specs.Around.{Around}
@@ -22,16 +22,21 @@ use Rattle.build_run.specs.Output.{BuildPrints, HasRunPrinting}
 use Rattle.build_run.specs.declared.end.BuildEnd.{BuildEnd}
 use Rattle.scons_words.specs.declared.words.Words.{Words}
 use Rattle.scons_report.specs.Cleaning.{IsCleanList, rules_numbered}
+use Rattle.build_files.specs.Dueness.{HaveOwnDigests}
+use Rattle.scons_report.specs.Dry.{ListsDry}
 use Rattle.scons_top.specs.Cleaned.{targets_of}
 use Rattle.scons_top.specs.Builds.{BeginsStore, wanted_by}
 use Rattle.world_api.specs.declared.refusal.Fault.{Fault}
 use Rattle.scons_top.specs.Endings.{AddsUnprinted, ClosesWith}
-use Rattle.scons_top.specs.Printed.{Printed, PrintsUpTo, PrintsUnless, IsPrintedOf, PrintsSuch, IsCutShort, IsCutBy, IsCut, LosesOut, AreFaultsOf, IsBuildText, IsBuildingText, IsServedText, IsOpeningText, IsBehindText, IsReadText, IsHelpText, IsRunText, IsRemovedFront, IsCleanedText, IsCleanStopped, IsCleaningText, there_in, Surely, FaultPrints, ServePrints, RunPrints}
+use Rattle.scons_top.specs.Printed.{LosesOut, AreFaultsOf, IsEnding, IsBuildText, IsBuildingText, IsListText, IsListOrNone, IsListingText, IsServedText, IsOpeningText, IsBehindText, IsReadText, IsHelpText, IsRunText, IsRemovedFront, IsCleanedText, IsCleanStopped, IsCleaningText, there_in, Surely, FaultPrints, ServePrints, RunPrints}
+use Rattle.scons_top.specs.Sinks.{Printed, PrintsUpTo, PrintsUnless, IsPrintedOf, PrintsSuch, IsCutShort, IsCutBy, IsCut}
 use Rattle.scons_top.specs.Asked.{asked_of, words_asked}
 use Rattle.scons_top.specs.Requested.{AskForNodes, nodes_asked}
 use Rattle.scons_top.specs.Steps.{IsReadingStep, IsTold, ServesAt}
-use Rattle.scons_top.specs.RunLines.{progress, options_of, closing_text, ending_text, removed_texts, requests_text, rules_text}
+use Rattle.scons_top.specs.RunLines.{progress, options_of, closing_text, ending_text, list_text, removed_texts, requests_text}
 use Rattle.scons_top.specs.Stops.{top_of}
+use Rattle.scons_top.specs.Trees.{shows_trees, IsTreesEnding, TreesPrint}
+use Rattle.build_model.specs.Rules.{Path}
 use Rattle.scons_top.specs.declared.report.Report.{Report}
 use Rattle.scons_top.specs.declared.report.Top.{Top}
 use Rattle.scons_top.specs.declared.report.Top.TheVariants as top
@@ -69,10 +74,6 @@ module _ {W O : Type 0} (m : Meaning W) (p : SinkMeaning O) (said : Words) (g : 
   serve_unbuilt after (Err x) s is cut h =
       let short = subst IsCutBy (sym is) cut in
       such_some p (Surely m said step.Building new) (IsServedText m p said step.Building g requests old new (Err x)) (IsCut (Err x)) out after (progress said building_text) h (short, refl) short
-
-  -- where trees are shown
-  pub serve_treed : (after : O) (report : Report) → said.tree ≡ true → (p.tells after → p.tells out) → ServePrints m p said step.Building g requests old out new after (Ok report)
-  serve_treed after report is told = record { told = told; such = λ so t. absurd (false≢true (sym so.2 ∙ is)) }
 
 -- what cuts a run short that built
 
@@ -120,9 +121,9 @@ pub serve_built : {W O : Type 0} (m : Meaning W) (p : SinkMeaning O) (said : Wor
     → Printed p out said_out (progress said building_text)
     → BuildPrints m p (wanted_by said g requested) store (options_of said) begun said_out built after kept answer
     → PrintsUnless p (LosesOut answer) (ending_text said grown requests answer.started answer.faults) after last written
-    → (report.status ≢ 3 → answer.memory ≡ false) → (report.status ≢ 3 → ClosesWith answer.faults written report.faults)
+    → (answer.memory ≡ false → shows_trees said answer.faults ≡ false) → (report.status ≢ 3 → answer.memory ≡ false) → (report.status ≢ 3 → ClosesWith answer.faults written report.faults)
     → ServePrints m p said step.Building g requests old out built last (Ok report)
-serve_built {O = O} m p said g grown requests requested old begun built out said_out after last store kept answer written report are nodes begins tells records one two three memory closes =
+serve_built {O = O} m p said g grown requests requested old begun built out said_out after last store kept answer written report are nodes begins tells records one two three plain memory closes =
     let ending = ending_text said grown requests answer.started answer.faults in
     let last_some = unless_some p (LosesOut answer) after last ending written three in
     record {
@@ -149,10 +150,72 @@ serve_built {O = O} m p said g grown requests requested old begun built out said
               grown = grown;
               started = answer.started;
               found = answer.faults;
-              faults = λ ne. faults_closed answer.faults written report.faults (closes ne);
+              rest = ending;
+              ends = inl (record { plain = λ ne. plain (memory ne); faults = λ ne. faults_closed answer.faults written report.faults (closes ne); whole = refl });
               whole = refl;
             });
             printed = all_or_front p answer report memory out said_out after last (progress said building_text) text ending written closes t (one.whole (two.told at)) builds.printed.printed three;
+          };
+    }
+
+-- and trees behind it
+
+ends_skipping : (said : Words) (declared : ℕ) (around : Around) (g : RuleGraph) (requests : List Request) (started : List RuleId) (report : Report) (pairs : List (Path × Path)) (text : List ℕ)
+    → IsTreesEnding said declared around g requests started (Ok report) text → IsTreesEnding said declared around g requests started (Ok (record report { skipped = pairs })) text
+ends_skipping said declared around g requests started report pairs text (inl all) = inl all
+ends_skipping said declared around g requests started report pairs text (inr (inl h)) =
+    inr (inl (record { fault = h.fault; told = h.told; front = h.front; is_front = h.is_front; whole = h.whole }))
+ends_skipping said declared around g requests started report pairs text (inr (inr cut)) = inr (inr cut)
+
+all_or_cut : (cut : Type 0) (a b c d first second third : List ℕ) → b ≡ a ++ first → c ≡ b ++ second → (d ≡ c ++ third) ⊎ (cut × IsPrefixed c d third)
+    → (d ≡ a ++ ((first ++ second) ++ third)) ⊎ (cut × IsPrefixed a d ((first ++ second) ++ third))
+all_or_cut cut a b c d first second third one two (inl all) = inl (behind a b c d first second third one two all)
+all_or_cut cut a b c d first second third one two (inr front) = inr (front.0, behind_front a b c d first second third one two front.1)
+
+pub serve_treed : {W O : Type 0} (m : Meaning W) (p : SinkMeaning O) (said : Words) (g grown : RuleGraph) (requests : List Request) (requested : List NodeId) (declared : ℕ)
+    (started : List RuleId) (old begun built new : W) (out said_out after last : O) (store kept : Map) (answer : BuildEnd) (report : Report)
+    → requested ≡ nodes_asked requests → are_below (length g.nodes) requested ≡ true → declared ≡ length g.rules → BeginsStore m old begun → (m.tells built → m.tells begun)
+    → (m.tells begun → store ≡ image_in (m.seen old)) → Printed p out said_out (progress said building_text)
+    → BuildPrints m p (wanted_by said g requested) store (options_of said) begun said_out built after kept answer
+    → Looks m built new → (m.tells built → (m.around built).running ≡ []) → shows_trees said answer.faults ≡ true
+    → TreesPrint m p said declared grown requests started built after new last (Ok report)
+    → ServePrints m p said step.Building g requests old out new last (Ok (record report { skipped = answer.skipped }))
+serve_treed {O = O} m p said g grown requests requested declared started old begun built new out said_out after last store kept answer report are nodes count begins tells records one two
+    looks idle shows three =
+    record {
+      told = λ t. one.told (two.told (three.told t));
+      such = λ so t.
+          let there = looks.told.told so.0 in
+          let here = tells there in
+          let at = three.told t in
+          let ran = two.prints there (looks.told.sure so.0 so.1) at nodes in
+          let of_map = subst (λ (map : Map). HasRunPrinting m p (wanted_by said g requested) map (options_of said) begun said_out built after kept answer.is_ended) (records here) ran in
+          let builds = subst (λ (list : List NodeId). HasRunPrinting m p (wanted_by said g list) (image_in (m.seen old)) (options_of said) begun said_out built after kept answer.is_ended) are of_map in
+          let text = builds.printed.text ++ builds.printed.rest in
+          let trees = three.such so.0 t in
+          let ends = subst (λ n. IsTreesEnding said n (m.around built) grown requests started (Ok (record report { skipped = answer.skipped })) trees.text) count
+          (ends_skipping said declared (m.around built) grown requests started report answer.skipped trees.text trees.is) in
+          record {
+            text = progress said building_text ++ text ++ trees.text;
+            is = inl (record {
+              begun = begun;
+              built = built;
+              before = said_out;
+              after = after;
+              around = begins.around here;
+              around_behind = around_asked (m.around built) (m.around new) (idle there) (looks.around so.0);
+              behind = kept;
+              is_ended = answer.is_ended;
+              builds = builds;
+              grown = grown;
+              started = started;
+              found = answer.faults;
+              rest = trees.text;
+              ends = inr (shows, ends);
+              whole = refl;
+            });
+            printed = all_or_cut (IsCutShort report) (p.text out) (p.text said_out) (p.text after) (p.text last) (progress said building_text) text trees.text (one.whole (two.told at)) builds.printed.printed
+                trees.printed;
           };
     }
 
@@ -209,8 +272,9 @@ record BuiltFrom {W O : Type 0} (m : Meaning W) (p : SinkMeaning O) (said : Word
   grown : RuleGraph
   started : List RuleId
   found : List BuildFault
-  faults : report.status ≢ 3 → AreFaultsOf found report.faults
-  whole : text ≡ progress said building_text ++ (builds.printed.text ++ builds.printed.rest) ++ ending_text said grown requests started found
+  rest : List ℕ
+  ends : IsEnding said (length g.rules) (m.around built) grown requests started found report rest
+  whole : text ≡ progress said building_text ++ (builds.printed.text ++ builds.printed.rest) ++ rest
 
 build_looked : {W O : Type 0} (m : Meaning W) (p : SinkMeaning O) (said : Words) (g : RuleGraph) (requests : List Request) (a b new : W) (report : Report) (text : List ℕ)
     → m.around b ≡ m.around a → image_in (m.seen b) ≡ image_in (m.seen a) → IsBuildText m p said g requests b new report text → IsBuildText m p said g requests a new report text
@@ -228,7 +292,8 @@ build_looked m p said g requests a b new report text around records h =
       grown = h.grown;
       started = h.started;
       found = h.found;
-      faults = h.faults;
+      rest = h.rest;
+      ends = h.ends;
       whole = h.whole;
     } in
     let one = subst (λ (x : Around). BuiltFrom m p said g requests x (image_in (m.seen b)) new report text) around from in
@@ -246,7 +311,8 @@ build_looked m p said g requests a b new report text around records h =
       grown = two.grown;
       started = two.started;
       found = two.found;
-      faults = two.faults;
+      rest = two.rest;
+      ends = two.ends;
       whole = two.whole;
     }
 
@@ -256,11 +322,43 @@ building_looked m p said g requests a b new (Err s) text around records h = h
 building_looked m p said g requests a b new (Ok report) text around records (inr early) = inr early
 building_looked m p said g requests a b new (Ok report) text around records (inl h) = inl (build_looked m p said g requests a b new report text around records h)
 
+-- and a list
+
+module _ {W : Type 0} (m : Meaning W) (said : Words) (g : RuleGraph) (requests : List Request) (a b new : W)
+    (same : m.tells new → (m.around b ≡ m.around a) × (image_in (m.seen b) ≡ image_in (m.seen a))) where
+  list_looked : (text : List ℕ) → IsListText m said g requests b new text → IsListText m said g requests a new text
+  list_looked text h = record {
+    grown = h.grown;
+    rules = h.rules;
+    lists = λ t own.
+        let is = same t in
+        let nodes = nodes_asked requests in
+        let found = h.lists t (subst (λ (map : Map). HaveOwnDigests map) (sym is.1) own) in
+        let one = subst (λ (x : Around). ListsDry g h.grown said.hash (image_in (m.seen b)) x nodes h.rules) is.0 found in
+        subst (λ (map : Map). ListsDry g h.grown said.hash map (m.around a) nodes h.rules) is.1 one;
+    whole = h.whole;
+  }
+
+  or_none_looked : (text : List ℕ) → IsListOrNone m said g requests b new text → IsListOrNone m said g requests a new text
+  or_none_looked text (inl none) = inl none
+  or_none_looked text (inr h) = inr (list_looked text h)
+
+  listing_looked : (r : Result Report Stop) (text : List ℕ) → IsListingText m said g requests b new r text → IsListingText m said g requests a new r text
+  listing_looked (Err s) text h = (h.0, or_none_looked text h.1)
+  listing_looked (Ok report) text (inl h) = inl (h.0, list_looked text h.1)
+  listing_looked (Ok report) text (inr (inl h)) = inr (inl h)
+  listing_looked (Ok report) text (inr (inr h)) = inr (inr (h.0, or_none_looked text h.1))
+
 -- what a run printed that opened, and then served what was requested
 
 module _ {W O : Type 0} (m : Meaning W) (p : SinkMeaning O) (said : Words) (defaults : List Wish) (g : RuleGraph) (requests : List Request) (old mid new : W) (out between after : O)
     (r : Result Report Stop) (looks : Looks m old mid) (told : m.tells new → m.tells mid) (idle : m.tells old → (m.around old).running ≡ [])
     (words : words_asked requests ≡ asked_of defaults said.requested) (nodes : AskForNodes g requests) (opens : PrintsSuch p (Unit {0}) (IsOpeningText said) ⊥ out between) where
+  same_found : m.tells new → (m.around mid ≡ m.around old) × (image_in (m.seen mid) ≡ image_in (m.seen old))
+  same_found t =
+      let here = told t in
+      (around_asked (m.around old) (m.around mid) (idle (looks.told.told here)) (looks.around here), records_kept m old mid (looks.banks here))
+
   looked : Surely m said step.Building new → (rest : List ℕ) → IsServedText m p said step.Building g requests mid new r rest → IsServedText m p said step.Building g requests old new r rest
   looked so rest is =
       let here = told so.0 in
@@ -296,7 +394,8 @@ module _ {W O : Type 0} (m : Meaning W) (p : SinkMeaning O) (said : Words) (defa
   run_served step.Store serves h =
       joins (Unit {0}) (IsServedText m p said step.Store g requests mid new r) (λ g requests rest. IsServedText m p said step.Store g requests old new r rest) (λ so rest is. is) h
   run_served step.Listing serves h =
-      joins (Unit {0}) (IsServedText m p said step.Listing g requests mid new r) (λ g requests rest. IsServedText m p said step.Listing g requests old new r rest) (λ so rest is. is) h
+      joins (Unit {0}) (IsServedText m p said step.Listing g requests mid new r) (λ g requests rest. IsServedText m p said step.Listing g requests old new r rest)
+      (λ so rest is. listing_looked m said g requests old mid new same_found r rest is) h
   run_served step.Cleaning serves h =
       joins (m.tells new) (IsServedText m p said step.Cleaning g requests mid new r) (λ g requests rest. IsServedText m p said step.Cleaning g requests old new r rest)
       (λ so rest is.
@@ -455,17 +554,18 @@ module _ {W O : Type 0} (m : Meaning W) (p : SinkMeaning O) (said : Words) (g : 
       (some_all p out after (progress said building_text) h) (tt, inl refl) tt
 
   pub serve_listed : (grown : RuleGraph) (rules : List RuleId) (r : Result Report Stop) → IfOk r (λ report. report.faults ≡ []) → Printed p out between (progress said building_text)
-      → PrintsUpTo p (rules_text said grown rules ++ ending_text said grown requests rules []) between after r → ServePrints m p said step.Listing g requests old out new after r
-  serve_listed grown rules (Ok report) none one h =
-      let text = progress said building_text ++ (rules_text said grown rules ++ ending_text said grown requests rules []) in
+      → PrintsUpTo p (list_text said grown requests rules) between after r
+      → (m.tells new → HaveOwnDigests (image_in (m.seen old)) → ListsDry g grown said.hash (image_in (m.seen old)) (m.around old) (nodes_asked requests) rules) → ServePrints m p said step.Listing g requests old out new after r
+  serve_listed grown rules (Ok report) none one h lists =
+      let text = progress said building_text ++ list_text said grown requests rules in
       such_whole p (Unit {0}) (IsServedText m p said step.Listing g requests old new (Ok report)) (IsCutShort report) out after text
-      (printed_then p out between after (progress said building_text) (rules_text said grown rules ++ ending_text said grown requests rules []) one h)
-      (inl (none, record { grown = grown; rules = rules; whole = refl }))
-  serve_listed grown rules (Err s) none one h =
-      let text = progress said building_text ++ (rules_text said grown rules ++ ending_text said grown requests rules []) in
+      (printed_then p out between after (progress said building_text) (list_text said grown requests rules) one h)
+      (inl (none, record { grown = grown; rules = rules; lists = lists; whole = refl }))
+  serve_listed grown rules (Err s) none one h lists =
+      let text = progress said building_text ++ list_text said grown requests rules in
       such_some p (Unit {0}) (IsServedText m p said step.Listing g requests old new (Err s)) (IsCutBy s) out after text
-      (some_behind p out between after (progress said building_text) (rules_text said grown rules ++ ending_text said grown requests rules []) one h.1)
-      (h.0, inr (record { grown = grown; rules = rules; whole = refl })) h.0
+      (some_behind p out between after (progress said building_text) (list_text said grown requests rules) one h.1)
+      (h.0, inr (record { grown = grown; rules = rules; lists = lists; whole = refl })) h.0
 
   pub serve_faulty : (f : BuildFault) (r : Result Report Stop) → Printed p out between (progress said building_text) → FaultPrints p said f between after r
       → ServePrints m p said step.Listing g requests old out new after r
@@ -484,6 +584,14 @@ contains_told : (found : List BuildFault) (f : BuildFault) (written : Result (Un
 contains_told found f (Ok value) faults is has = subst (λ (fs : List Top). Contains fs (top_of f)) (sym is) (in_tops found f has)
 contains_told found f (Err s) faults is has =
     subst (λ (fs : List Top). Contains fs (top_of f)) (sym is) (Contains-append_left (map top_of found) (top.OutFault ∷ []) (top_of f) (in_tops found f has))
+
+-- each fault of a build is in the report that is closed with them
+pub all_told : (found : List BuildFault) (written : Result (Unit {0}) Stop) (faults : List Top) → ClosesWith found written faults → All (λ f. Contains faults (top_of f)) found
+all_told found written faults closes =
+    All-weaker (Contains found) (λ (f : BuildFault). Contains faults (top_of f)) (λ f has. contains_told found f written faults closes has) found (All-contains_itself found)
+
+pub none_left : (found : List BuildFault) (faults : List Top) → found ≡ [] → All (λ f. Contains faults (top_of f)) found
+none_left found faults is = subst (λ (fs : List BuildFault). All (λ f. Contains faults (top_of f)) fs) (sym is) (All-nil (λ (f : BuildFault). Contains faults (top_of f)))
 
 found_in : (f : BuildFault) (none one found : List BuildFault) (printed : Result (Unit {0}) Fault) (lost : Bool) → one ≡ none ++ f ∷ [] → AddsUnprinted printed one found lost → lost ≡ false → Contains found f
 found_in f none one found (Ok value) lost pushed adds kept = subst (λ (fs : List BuildFault). Contains fs f) (sym (adds.0 ∙ pushed)) (Contains-push none f)

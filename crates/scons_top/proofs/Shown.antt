@@ -14,7 +14,14 @@ use Rattle.scons_report.specs.Asked.{HasTreeCause}
 use Rattle.scons_report.specs.Causes.{HasFaultCause as HasListFault}
 use Rattle.scons_report.specs.declared.tree_end.TreeEnd.{TreeEnd}
 use Rattle.scons_report.specs.declared.tree_end.TreeEnd.TheVariants as end
+use Rattle.build_model.specs.Rules.{Path}
+use Rattle.world_api.specs.Printed.{SinkMeaning}
+use Rattle.scons_top.specs.declared.report.Report.{Report}
+use Rattle.scons_top.specs.declared.step.Step.{Step}
 use Rattle.scons_top.specs.declared.stop.Stop.TheVariants as stop
+use Rattle.scons_top.specs.Causes.{IsCaused}
+use Rattle.scons_top.specs.Steps.{ReportsAt}
+use Rattle.scons_top.specs.Told.{TellsFaults}
 use Rattle.scons_top.specs.Stops.{top_of, HasWorldCause, HasStop}
 use Rattle.scons_top.specs.Watching.{Watches}
 use Rattle.scons_top.proofs.Watching.{later_same, later_list}
@@ -104,3 +111,18 @@ none_found a b faults memory none well caused =
     let out = still a.out b.out later.out (λ ne. none_in fault.OutFault (told.out ne)) in
     let err = still a.err b.err later.err (λ ne. none_in fault.OutFault (told.err ne)) in
     λ i. record { counts = counts i; out = out i; err = err i }
+
+-- a report that tells more that was skipped
+
+abbrev with_skipped : Report → List (Path × Path) → Report
+with_skipped report pairs = record report { skipped = pairs }
+
+pub caused_skipping : (a b : Outside) (report : Report) (pairs : List (Path × Path)) → IsCaused a b report → IsCaused a b (with_skipped report pairs)
+caused_skipping a b report pairs h = record { later = h.later; each = h.each; told = h.told }
+
+pub ends_skipping : (at : Step) (report : Report) (pairs : List (Path × Path)) → ReportsAt at report → ReportsAt at (with_skipped report pairs)
+ends_skipping at report pairs h = record { ends = h.ends; faults = h.faults }
+
+pub tells_skipping : {E : Type 0} (e : SinkMeaning E) (err new : E) (report : Report) (pairs : List (Path × Path)) → TellsFaults e err new report
+    → TellsFaults e err new (with_skipped report pairs)
+tells_skipping e err new report pairs h = record { told = h.told; shown = h.shown }

@@ -1,16 +1,21 @@
 -- What a run did whose words ask for a build.
-use Rattle.std.specs.Prelude.{◌≡◌, ◌≢◌, ◌⊎◌, ℕ, Bool, false, true, List, length, None, Result, Ok, Err}
+use Rattle.std.specs.Prelude.{◌≡◌, ◌≢◌, ◌⊎◌, Bool, false, true, List, [], length, All, Contains, None, Result, Ok, Err}
 use Rattle.scons_base.specs.declared.ids.NodeId.{NodeId}
 use Rattle.world_api.specs.Looks.{Looks}
 use Rattle.world_api.specs.Meaning.{Meaning}
 use Rattle.rule_graph.specs.Graphs.{RuleGraph}
 use Rattle.rule_graph.specs.Rules.{are_below}
+use Rattle.rule_graph.specs.declared.build_fault.BuildFault.{BuildFault}
 use Rattle.sign_store.specs.Changing.{BeginsThroughout}
 use Rattle.sign_store.specs.Ends.{ReadsAsBefore, image_in}
 use Rattle.sign_store.specs.Tables.{Map}
 use Rattle.scons_words.specs.declared.words.Words.{Words}
 use Rattle.build_means.specs.Builds.{Wanted}
+use Rattle.build_run.specs.Causes.{HasAny}
 use Rattle.build_run.specs.Outsets.{HasRun, HasSucceeded}
+use Rattle.build_run.specs.Reasons.{IsLast}
+use Rattle.build_run.specs.Skips.{AreSkips}
+use Rattle.scons_top.specs.Stops.{top_of}
 use Rattle.scons_top.specs.declared.report.Report.{Report}
 use Rattle.scons_top.specs.declared.stop.Stop.{Stop}
 
@@ -43,9 +48,9 @@ pub record LooksAndBegins {W : Type 0} (m : Meaning W) (old new : W) : Type 0 wh
 abbrev pub EndsBefore : {W : Type 0} → Meaning W → W → W → Type 0
 EndsBefore m old new = Looks m old new ⊎ LooksAndBegins m old new
 
--- A run built nodes of a graph, from the world as the run found it and the records that its banks held then; and where it answers
--- status 0, the build succeeded.
-pub record HasBuilt {W : Type 0} (m : Meaning W) (said : Words) (old new : W) (status : ℕ) : Type 0 where
+-- A run built nodes of a graph, from the world as the run found it and the records that its banks held then; where it answers
+-- status 0, the build succeeded; and what its report tells to be skipped is what the build held back.
+pub record HasBuilt {W : Type 0} (m : Meaning W) (said : Words) (old new : W) (report : Report) : Type 0 where
   pub graph : RuleGraph
   pub requested : List NodeId
   pub are_nodes : are_below (length graph.nodes) requested ≡ true
@@ -54,16 +59,23 @@ pub record HasBuilt {W : Type 0} (m : Meaning W) (said : Words) (old new : W) (s
   -- whether a fault came after which nothing new starts
   pub is_ended : Bool
   pub runs : HasRun m (wanted_by said graph requested) (image_in (m.seen old)) old new kept is_ended
-  pub succeeds : status ≡ 0 → HasSucceeded m (wanted_by said graph requested) (image_in (m.seen old)) old new kept
+  pub succeeds : report.status ≡ 0 → HasSucceeded m (wanted_by said graph requested) (image_in (m.seen old)) old new kept
+  -- the faults of the build, each of which the report has unless memory was wanting
+  pub found : List BuildFault
+  pub reported : report.status ≢ 3 → All (λ f. Contains report.faults (top_of f)) found
+  -- with keep-going others go on unless such a fault came
+  pub goes_on : report.status ≢ 3 → said.keep ≡ true → is_ended ≡ true → HasAny IsLast found
+  pub skips : is_ended ≡ false →
+      AreSkips (wanted_by said graph requested) runs.kept runs.left (m.around new) runs.runs.steps found report.skipped
 
--- A run that is asked for a build, in a world that tells and is sure, builds, or it ends before and its status says so.
+-- A run that is asked for a build, in a world that tells and is sure, builds, or it ends before, skips nothing, and its status says so.
 abbrev pub Builds : {W : Type 0} → Meaning W → Words → W → W → Report → Type 0
 Builds m said old new report = AskForBuild said → m.tells new → m.sure new →
-    HasBuilt m said old new report.status ⊎ ((report.status ≢ 0) × EndsBefore m old new)
+    HasBuilt m said old new report ⊎ ((report.status ≢ 0) × (report.skipped ≡ []) × EndsBefore m old new)
 
 -- The same of its steps: where one stops, there is no report yet.
 abbrev pub BuildsOrStops : {W : Type 0} → Meaning W → Words → W → W → Result Report Stop → Type 0
-BuildsOrStops m said old new (Ok report) = HasBuilt m said old new report.status
+BuildsOrStops m said old new (Ok report) = HasBuilt m said old new report
 BuildsOrStops m said old new (Err stop) = EndsBefore m old new
 
 abbrev pub RunBuilds : {W : Type 0} → Meaning W → Words → W → W → Result Report Stop → Type 0

@@ -8,6 +8,7 @@ pub mod Foreign
 pub mod Printed
 pub mod Requested
 pub mod RunLines
+pub mod Sinks
 pub mod Steps
 pub mod Stopping
 pub mod Stops

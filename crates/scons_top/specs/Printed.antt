@@ -1,5 +1,5 @@
 -- What a run prints on standard output, by the step at which it ended.
-use Rattle.std.specs.Prelude.{◌≡◌, ◌≢◌, ◌⊎◌, ℕ, Bool, true, false, List, [], ◌∷◌, ◌++◌, Contains, IfSome, is_some, map, Result, Ok, Err}
+use Rattle.std.specs.Prelude.{◌≡◌, ◌≢◌, ◌⊎◌, ℕ, Bool, true, false, List, [], ◌∷◌, ◌++◌, length, Contains, IfSome, is_some, map, Result, Ok, Err}
 use Rattle.world_api.specs.Meaning.{Meaning}
 use Rattle.world_api.specs.Printed.{SinkMeaning}
 use Rattle.world_api.specs.Printing.{IsPrefixed, PrintsSome}
@@ -13,8 +13,11 @@ use Rattle.sign_store.specs.Tables.{Map}
 use Rattle.report_texts.specs.Texts.{reading_text, building_text, cleaned_text, cleaning_text, help_text, load_text}
 use Rattle.world_api.specs.Around.{Around}
 use Rattle.scons_report.specs.Cleaning.{IsCleanList, rules_numbered}
+use Rattle.build_files.specs.Dueness.{HaveOwnDigests}
+use Rattle.scons_report.specs.Dry.{ListsDry}
 use Rattle.build_run.specs.Output.{HasRunPrinting}
 use Rattle.build_run.specs.declared.end.BuildEnd.{BuildEnd}
+use Rattle.scons_words.specs.Readings.{read}
 use Rattle.scons_words.specs.declared.words.Words.{Words}
 use Rattle.scons_top.specs.declared.report.Report.{Report}
 use Rattle.scons_top.specs.declared.report.Top.{Top}
@@ -28,55 +31,14 @@ use Rattle.scons_top.specs.Asked.{asked_of, words_asked}
 use Rattle.scons_top.specs.Builds.{wanted_by}
 use Rattle.scons_top.specs.Cleaned.{targets_of}
 use Rattle.scons_top.specs.Requested.{AskForNodes, nodes_asked}
-use Rattle.scons_top.specs.RunLines.{progress, opening_text, options_of, closing_text, ending_text, removed_texts, rules_text, without}
+use Rattle.scons_top.specs.RunLines.{progress, notice, opening_text, options_of, closing_text, ending_text, list_text, removed_texts, request_text, without, AreMarks}
+use Rattle.scons_top.specs.Sinks.{PrintsUnless, PrintsUpTo, PrintsSuch, IsCut, IsCutBy, IsCutShort}
 use Rattle.scons_top.specs.Stops.{top_of}
+use Rattle.scons_top.specs.Trees.{shows_trees, IsTreesEnding}
 
--- ---- texts on a sink
+-- ---- what cuts a build short
 
--- this text stands printed, all of it
-pub record Printed {S : Type 0} (p : SinkMeaning S) (old new : S) (text : List ℕ) : Type 0 where
-  pub told : p.tells new → p.tells old
-  pub whole : p.tells new → p.text new ≡ p.text old ++ text
-
--- a sink refused, or memory was wanting
-abbrev pub IsCutBy : Stop → Type 0
-IsCutBy (stop.Fault fault) = ⊥
-IsCutBy (stop.Build fault.OutFault) = Unit {0}
-IsCutBy (stop.Build other) = ⊥
-IsCutBy stop.Memory = Unit {0}
-
--- so it does where a step on the sink alone went on, and a front of it where that stopped, which cuts it short
-abbrev pub PrintsUpTo : {S T : Type 0} → SinkMeaning S → List ℕ → S → S → Result T Stop → Type 0
-PrintsUpTo p text old new (Ok value) = Printed p old new text
-PrintsUpTo p text old new (Err s) = IsCutBy s × PrintsSome p old new text
-
--- or where there was a reason not to print it to its end
-abbrev pub PrintsUnless : {S T : Type 0} → SinkMeaning S → Type 0 → List ℕ → S → S → Result T Stop → Type 0
-PrintsUnless p reason text old new (Ok value) = Printed p old new text ⊎ (reason × PrintsSome p old new text)
-PrintsUnless p reason text old new (Err s) = PrintsSome p old new text
-
--- A text of this kind stands printed, all of it, or where the run was cut short maybe only a front of it.
-pub record IsPrintedOf {S : Type 0} (p : SinkMeaning S) (IsText : List ℕ → Type 0) (cut : Type 0) (old new : S) : Type 0 where
-  pub text : List ℕ
-  pub is : IsText text
-  pub printed : (p.text new ≡ p.text old ++ text) ⊎ (cut × IsPrefixed (p.text old) (p.text new) text)
-
--- So it does on a sink that tells, where more is so.
-pub record PrintsSuch {S : Type 0} (p : SinkMeaning S) (where_so : Type 0) (IsText : List ℕ → Type 0) (cut : Type 0) (old new : S) : Type 0 where
-  pub told : p.tells new → p.tells old
-  pub such : where_so → p.tells new → IsPrintedOf p IsText cut old new
-
--- ---- what cuts a run short
-
--- unless memory was wanting a sink's refusal is reported
-abbrev pub IsCutShort : Report → Type 0
-IsCutShort report = report.status ≢ 3 → Contains report.faults top.OutFault
-
-abbrev pub IsCut : Result Report Stop → Type 0
-IsCut (Ok report) = IsCutShort report
-IsCut (Err s) = IsCutBy s
-
--- the same of a build
+-- standard output refused, which its faults tell, or memory was wanting
 abbrev pub LosesOut : BuildEnd → Type 0
 LosesOut end = (end.memory ≡ true) ⊎ Contains end.faults fault.OutFault
 
@@ -86,7 +48,18 @@ LosesOut end = (end.memory ≡ true) ⊎ Contains end.faults fault.OutFault
 abbrev pub AreFaultsOf : List BuildFault → List Top → Type 0
 AreFaultsOf found faults = (faults ≡ map top_of found) ⊎ (faults ≡ map top_of found ++ top.OutFault ∷ [])
 
--- Behind the line that says so a build printed the texts of the rules that it started, and behind these stands the ending. The
+-- Behind a build stands the ending; or, where trees are shown, what stands with them.
+pub record IsPlainEnding (said : Words) (g : RuleGraph) (requests : List Request) (started : List RuleId) (found : List BuildFault) (report : Report) (text : List ℕ) : Type 0 where
+  pub plain : report.status ≢ 3 → shows_trees said found ≡ false
+  pub faults : report.status ≢ 3 → AreFaultsOf found report.faults
+  pub whole : text ≡ ending_text said g requests started found
+
+abbrev pub IsEnding : Words → ℕ → Around → RuleGraph → List Request → List RuleId → List BuildFault → Report → List ℕ → Type 0
+IsEnding said declared around g requests started found report text =
+    IsPlainEnding said g requests started found report text
+    ⊎ (shows_trees said found ≡ true) × IsTreesEnding said declared around g requests started (Ok report) text
+
+-- Behind the line that says so a build printed the texts of the rules that it started, and behind these stands how it ended. The
 -- build began with the files and records that the run had found.
 pub record IsBuildText {W O : Type 0} (m : Meaning W) (p : SinkMeaning O) (said : Words) (g : RuleGraph) (requests : List Request) (old new : W)
     (report : Report) (text : List ℕ) : Type 0 where
@@ -104,8 +77,9 @@ pub record IsBuildText {W O : Type 0} (m : Meaning W) (p : SinkMeaning O) (said 
   pub grown : RuleGraph
   pub started : List RuleId
   pub found : List BuildFault
-  pub faults : report.status ≢ 3 → AreFaultsOf found report.faults
-  pub whole : text ≡ progress said building_text ++ (builds.printed.text ++ builds.printed.rest) ++ ending_text said grown requests started found
+  pub rest : List ℕ
+  pub ends : IsEnding said (length g.rules) (m.around built) grown requests started found report rest
+  pub whole : text ≡ progress said building_text ++ (builds.printed.text ++ builds.printed.rest) ++ rest
 
 -- or the run was cut short before it built
 abbrev pub IsBuildingText : {W O : Type 0} → Meaning W → SinkMeaning O → Words → RuleGraph → List Request → W → W → Result Report Stop → List ℕ → Type 0
@@ -113,12 +87,15 @@ IsBuildingText m p said g requests old new (Ok report) text =
     IsBuildText m p said g requests old new report text ⊎ (IsCutShort report × (text ≡ progress said building_text))
 IsBuildingText m p said g requests old new (Err s) text = IsCutBy s × (text ≡ progress said building_text)
 
--- Behind that line a list has the lines of its rules, and the ending: of each rule that is listed as if it were started.
-pub record IsListText (said : Words) (requests : List Request) (text : List ℕ) : Type 0 where
+-- Behind that line a list has the lines of its rules, all of each and in their order, and the ending: of each rule that is listed as
+-- if it were started. In a world that tells these are just the rules that a dry run lists over the files and records that the run had
+-- found, where each digest of a record was made by its own function.
+pub record IsListText {W : Type 0} (m : Meaning W) (said : Words) (g : RuleGraph) (requests : List Request) (old new : W) (text : List ℕ) : Type 0 where
   -- the graph as it grew by copies
   pub grown : RuleGraph
   pub rules : List RuleId
-  pub whole : text ≡ progress said building_text ++ (rules_text said grown rules ++ ending_text said grown requests rules [])
+  pub lists : m.tells new → HaveOwnDigests (image_in (m.seen old)) → ListsDry g grown said.hash (image_in (m.seen old)) (m.around old) (nodes_asked requests) rules
+  pub whole : text ≡ progress said building_text ++ list_text said grown requests rules
 
 -- or the last line alone, where a fault of the graph or of the files came
 pub record IsFaultyText (said : Words) (report : Report) (text : List ℕ) : Type 0 where
@@ -127,13 +104,15 @@ pub record IsFaultyText (said : Words) (report : Report) (text : List ℕ) : Typ
   pub whole : text ≡ progress said building_text ++ progress said (closing_text said (fault ∷ []))
 
 -- where a run is cut short, the list may not have been made yet
-abbrev pub IsListOrNone : Words → List Request → List ℕ → Type 0
-IsListOrNone said requests text = (text ≡ progress said building_text) ⊎ IsListText said requests text
+abbrev pub IsListOrNone : {W : Type 0} → Meaning W → Words → RuleGraph → List Request → W → W → List ℕ → Type 0
+IsListOrNone m said g requests old new text = (text ≡ progress said building_text) ⊎ IsListText m said g requests old new text
 
-abbrev pub IsListingText : Words → List Request → Result Report Stop → List ℕ → Type 0
-IsListingText said requests (Ok report) text =
-    (report.faults ≡ []) × IsListText said requests text ⊎ IsFaultyText said report text ⊎ IsCutShort report × IsListOrNone said requests text
-IsListingText said requests (Err s) text = IsCutBy s × IsListOrNone said requests text
+abbrev pub IsListingText : {W : Type 0} → Meaning W → Words → RuleGraph → List Request → W → W → Result Report Stop → List ℕ → Type 0
+IsListingText m said g requests old new (Ok report) text =
+    (report.faults ≡ []) × IsListText m said g requests old new text
+    ⊎ IsFaultyText said report text
+    ⊎ IsCutShort report × IsListOrNone m said g requests old new text
+IsListingText m said g requests old new (Err s) text = IsCutBy s × IsListOrNone m said g requests old new text
 
 -- where files stand
 abbrev pub there_in : Around → List ℕ → Bool
@@ -190,7 +169,7 @@ IsCleaningText said g requests around (Err s) text = IsCleanStopped (IsCutBy s) 
 abbrev pub IsServedText : {W O : Type 0} → Meaning W → SinkMeaning O → Words → Step → RuleGraph → List Request → W → W → Result Report Stop → List ℕ → Type 0
 IsServedText m p said step.Building g requests old new result text = IsBuildingText m p said g requests old new result text
 IsServedText m p said step.Store g requests old new result text = text ≡ []
-IsServedText m p said step.Listing g requests old new result text = IsListingText said requests result text
+IsServedText m p said step.Listing g requests old new result text = IsListingText m said g requests old new result text
 IsServedText m p said step.Cleaning g requests old new result text = IsCleaningText said g requests (m.around old) result text
 IsServedText m p said other g requests old new result text = ⊥
 
@@ -237,9 +216,9 @@ IsRunText m p said other old new result text = IsBehindText said (λ g requests 
 
 -- ---- the clauses
 
--- Cleaning prints so in a world that tells, and a build in one that is sure too; where trees are shown nothing is said of it yet.
+-- Cleaning prints so in a world that tells, and a build in one that is sure too.
 abbrev pub Surely : {W : Type 0} → Meaning W → Words → Step → W → Type 0
-Surely m said step.Building new = m.tells new × m.sure new × (said.tree ≡ false)
+Surely m said step.Building new = m.tells new × m.sure new
 Surely m said step.Cleaning new = m.tells new
 Surely m said other new = Unit {0}
 
@@ -261,3 +240,28 @@ ServePrints m p said at g requests old out new new_out result =
 abbrev pub RunPrints : {W O : Type 0} → Meaning W → SinkMeaning O → Words → Step → W → O → W → O → Result Report Stop → Type 0
 RunPrints m p said at old out new new_out result =
     PrintsSuch p (Surely m said at new) (IsRunText m p said at old new result) (IsCut result) out new_out
+
+-- where the requested nodes are the graph's
+abbrev pub ServesPrinting : {W O : Type 0} → Meaning W → SinkMeaning O → Words → Step → RuleGraph → List Request → W → O → W → O → Result Report Stop → Type 0
+ServesPrinting m p said at g requests old out new new_out result = AskForNodes g requests → ServePrints m p said at g requests old out new new_out result
+
+-- where these words are read
+abbrev pub WordsPrint : {W O : Type 0} → Meaning W → SinkMeaning O → List (List ℕ) → Step → W → O → W → O → Result Report Stop → Type 0
+WordsPrint m p words at old out new new_out result = (said : Words) → read words ≡ Ok said → RunPrints m p said at old out new new_out result
+
+-- up to its report
+abbrev pub ReportPrints : {W O : Type 0} → Meaning W → SinkMeaning O → List (List ℕ) → W → O → W → O → Report → Type 0
+ReportPrints m p words old out new new_out report = WordsPrint m p words report.step old out new new_out (Ok report)
+
+-- behind a build, unless that lost its output
+abbrev pub EndsPrinting : {O T : Type 0} → SinkMeaning O → Words → RuleGraph → List Request → BuildEnd → O → O → Result T Stop → Type 0
+EndsPrinting p said g requests end old new result = PrintsUnless p (LosesOut end) (ending_text said g requests end.started end.faults) old new result
+
+-- as the targets of rules are removed
+abbrev pub CleansPrinting : {W O T : Type 0} → Meaning W → SinkMeaning O → Words → RuleGraph → List RuleId → W → O → W → O → Result T Stop → Type 0
+CleansPrinting m p said g rules old out new new_out result = RemovesPrinting m p said (targets_of (rules_numbered g rules)) old out new new_out result
+
+-- of one request, where marks say which rules were started
+abbrev pub RequestPrints : {O T : Type 0} → SinkMeaning O → Words → RuleGraph → Request → List Bool → O → O → Result T Stop → Type 0
+RequestPrints p said g request marks old new result =
+    (started : List RuleId) → AreMarks g started marks → PrintsUpTo p (notice said (request_text g started request)) old new result

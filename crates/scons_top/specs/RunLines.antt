@@ -107,3 +107,7 @@ closing_text said found = if said.keep && list_all goes_on found then done_with_
 abbrev pub ending_text : Words → RuleGraph → List Request → List RuleId → List BuildFault → List ℕ
 ending_text said g requests started [] = requests_text said g started requests ++ progress said done_text
 ending_text said g requests started (f ∷ found) = progress said (closing_text said (f ∷ found))
+
+-- what stands of a list: the lines of its rules, and the ending, of each rule that is listed as if it were started
+abbrev pub list_text : Words → RuleGraph → List Request → List RuleId → List ℕ
+list_text said g requests rules = rules_text said g rules ++ ending_text said g requests rules []

@@ -1,5 +1,5 @@
 -- What a run prints on standard error: of each fault that it reports its line, in their order.
-use Rattle.std.specs.Prelude.{◌≡◌, ◌≢◌, ◌⊎◌, ℕ, List, [], ◌∷◌, ◌++◌, Result, Ok, Err}
+use Rattle.std.specs.Prelude.{◌≡◌, ◌≢◌, ◌⊎◌, ℕ, List, [], ◌∷◌, ◌++◌, IfOk, OnOk, Result, Ok, Err, String, string_bytes}
 use Rattle.scons_base.specs.Rising.{Rose}
 use Rattle.world_api.specs.Printed.{SinkMeaning}
 use Rattle.world_api.specs.Printing.{IsPrefixed}
@@ -48,3 +48,8 @@ pub record TellsFaults {E : Type 0} (e : SinkMeaning E) (err new : E) (report : 
 abbrev pub TellsOrStops : {E : Type 0} → SinkMeaning E → E → E → Result Report Stop → Type 0
 TellsOrStops e err new (Ok report) = TellsFaults e err new report
 TellsOrStops e err new (Err s) = new ≡ err
+
+-- So the first fault does that is kept, where its line could be made.
+abbrev pub ShowsFirst : {E A F T G : Type 0} → SinkMeaning E → Top → Result (String A) F → List Top → List Top → E → E → Result T G → Type 0
+ShowsFirst e fault text before after err new result =
+    before ≡ [] → IfOk text (λ t. IsLine fault (string_bytes t)) → OnOk result (e.tells new → AreShown e err new after)

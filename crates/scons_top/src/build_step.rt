@@ -9,12 +9,14 @@ ghost use Rattle.rule_graph.specs.Graphs.{RuleGraph};
 ghost use Rattle.sign_store.specs.Stores.{IsKept, is_live, HasMapOf};
 ghost use Rattle.scons_top.specs.Builds.{BeginsStore, RunBuilds};
 ghost use Rattle.scons_top.specs.Steps.{IsBuildingStep, LeavesAt, RunEndsAt, StopsAt};
-ghost use Rattle.scons_top.specs.Printed.{LosesOut, PrintsUnless, PrintsUpTo, ServePrints};
+ghost use Rattle.scons_top.specs.Printed.{EndsPrinting, LosesOut, ServesPrinting};
+ghost use Rattle.scons_top.specs.Sinks.{PrintsUpTo};
 ghost use Rattle.scons_top.specs.RunLines.{ending_text};
 ghost use Rattle.scons_top.specs.Requested.{AskForNodes, GivesNodes, nodes_asked};
 ghost use Rattle.scons_top.specs.Stopping.{RunsSafely};
 ghost use Rattle.scons_top.specs.Told.{TellsOrStops};
 ghost use Rattle.scons_top.specs.Stops.{Reports, SinkStep, WorldStep};
+ghost use Rattle.scons_top.specs.Trees.{shows_trees};
 
 use crate::ending::{closed, tell_done, tell_faulty};
 use crate::printed::say;
@@ -51,7 +53,7 @@ pub(crate) fn build_requests<W: World, O: Sink, E: Sink>(
     ensures leaves { LeavesAt W.meaning at.new world.old world.new }
     ensures passes { Passes W.meaning world.old world.new }
     ensures reports { Reports W.meaning O.meaning E.meaning world.old out.old err.old world.new out.new err.new result }
-    ensures prints { AskForNodes graph.old requests.now → ServePrints W.meaning O.meaning words.now at.new graph.old requests.now world.old out.old world.new out.new result }
+    ensures prints { ServesPrinting W.meaning O.meaning words.now at.new graph.old requests.now world.old out.old world.new out.new result }
     ensures tells { TellsOrStops E.meaning err.old err.new result }
     ensures idle { W.meaning.tells world.new → (W.meaning.around world.new).running ≡ [] }
     ensures late { IfErr result IsLateStop }
@@ -85,9 +87,11 @@ pub(crate) fn build_requests<W: World, O: Sink, E: Sink>(
     );
     if has_trees(words, &end) {
         let started = end.started.as_slice();
-        return Ok(tell_trees(
+        let mut report = tell_trees(
             alloc, graph, declared, words, requests, started, world, out, err,
-        ));
+        );
+        report.skipped = end.skipped;
+        return Ok(report);
     }
     let written = tell_end(alloc, graph, words, requests, &end, out);
     Ok(closed(
@@ -123,7 +127,8 @@ fn begin_store<W: World>(alloc: Global, world: &mut W) -> Result<Store, Stop>
 fn has_trees(words: &Words, end: &BuildEnd) -> bool
     ensures faults { result ≡ true → end.now.faults ≡ [] }
     ensures memory { result ≡ true → end.now.memory ≡ false }
-    ensures tree { result ≡ true → words.now.tree ≡ true }
+    ensures shows { result ≡ true → shows_trees words.now end.now.faults ≡ true }
+    ensures plain { result ≡ false → end.now.memory ≡ false → shows_trees words.now end.now.faults ≡ false }
 {
     words.tree && !words.silent && !end.memory && end.faults.is_empty()
 }
@@ -150,7 +155,7 @@ fn tell_end<O: Sink>(
     out: &mut O,
 ) -> Result<(), Stop>
     ensures step { SinkStep (O.meaning.faults out.old) (O.meaning.faults out.new) result }
-    ensures prints { PrintsUnless O.meaning (LosesOut end.now) (ending_text words.now graph.now requests.now end.now.started end.now.faults) out.old out.new result }
+    ensures prints { EndsPrinting O.meaning words.now graph.now requests.now end.now out.old out.new result }
 {
     if loses_out(end) {
         return Ok(());

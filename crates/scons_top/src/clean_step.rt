@@ -6,7 +6,8 @@ ghost use Rattle.build_run.specs.Goings.{Stays};
 ghost use Rattle.scons_report.specs.Cleaning.{rules_numbered};
 ghost use Rattle.scons_top.specs.Cleaned.{AreRemoved, CleansAsked, Cleared, is_file_kind, targets_of};
 ghost use Rattle.report_texts.specs.Texts.{removed_text};
-ghost use Rattle.scons_top.specs.Printed.{LeavesBy, PrintsUpTo, RemovesPrinting, ServePrints};
+ghost use Rattle.scons_top.specs.Printed.{CleansPrinting, LeavesBy, RemovesPrinting, ServesPrinting};
+ghost use Rattle.scons_top.specs.Sinks.{PrintsUpTo};
 ghost use Rattle.scons_top.specs.RunLines.{notice};
 ghost use Rattle.scons_top.specs.Requested.{AskForNodes, nodes_asked};
 ghost use Rattle.scons_top.specs.Steps.{IsTreeEnd, RunEndsAt, StopsAt};
@@ -47,7 +48,7 @@ pub(crate) fn clean_requests<W: World, O: Sink>(
     ensures stays { Stays W.meaning world.old world.new }
     ensures safe { RunsSafely W.meaning world.old world.new }
     ensures reports { OutReports W.meaning O.meaning world.old out.old world.new out.new result }
-    ensures prints { AskForNodes graph.now requests.now → ServePrints W.meaning O.meaning words.now Step.Cleaning graph.now requests.now world.old out.old world.new out.new result }
+    ensures prints { ServesPrinting W.meaning O.meaning words.now Step.Cleaning graph.now requests.now world.old out.old world.new out.new result }
     ensures dry { IsTrue words.now.dry → Watches W.meaning world.old world.new }
     ensures late { IfErr result IsLateStop }
     ensures faults { IfOk result (λ report. report.faults ≡ []) }
@@ -80,7 +81,7 @@ fn clean_rules<W: World, O: Sink>(
     ensures dry { IsTrue words.now.dry → Watches W.meaning world.old world.new }
     ensures late { IfErr result IsLateStop }
     ensures left { OnOk result (LeavesBy W.meaning words.now (targets_of (rules_numbered graph.now rules.now)) world.old world.new) }
-    ensures prints { RemovesPrinting W.meaning O.meaning words.now (targets_of (rules_numbered graph.now rules.now)) world.old out.old world.new out.new result }
+    ensures prints { CleansPrinting W.meaning O.meaning words.now graph.now rules.now world.old out.old world.new out.new result }
 {
     for rule in rules {
         let targets = rule_at(graph, *rule)?.targets.as_slice();

@@ -5,10 +5,13 @@ ghost use Rattle.scons_top.specs.Foreign.{RunByBytes};
 ghost use Rattle.sign_store.specs.Readings.{AreReadable, IsRefusal};
 ghost use Rattle.world_api.specs.Statuses.{HasStatus};
 ghost use Rattle.scons_report.specs.Causes.{HasListCause};
+ghost use Rattle.scons_report.specs.Dry.{DryLists};
 ghost use Rattle.sign_store.specs.Reached.{HasFaultCause};
+ghost use Rattle.sign_store.specs.Stores.{map_of_view, ShowsMapOf};
 ghost use Rattle.scons_top.specs.Endings.{ListEnds, AddsUnprinted};
-ghost use Rattle.scons_top.specs.Printed.{FaultPrints, PrintsUpTo, ServePrints};
-ghost use Rattle.scons_top.specs.RunLines.{ending_text, line_by, rules_text};
+ghost use Rattle.scons_top.specs.Printed.{FaultPrints, ServesPrinting};
+ghost use Rattle.scons_top.specs.Sinks.{PrintsUpTo};
+ghost use Rattle.scons_top.specs.RunLines.{line_by, list_text};
 ghost use Rattle.scons_top.specs.Steps.{ComesAt, IsListingStep, RunEndsAt};
 ghost use Rattle.scons_top.specs.Stops.{SinkReports, Reports, top_of};
 ghost use Rattle.scons_top.specs.Told.{TellsOrStops};
@@ -41,12 +44,13 @@ pub(crate) fn list_requests<W: World, O: Sink, E: Sink>(
     err: &mut E,
     at: &mut Step,
 ) -> Result<Report, Stop>
+    requires idle { W.meaning.tells world.old → (W.meaning.around world.old).running ≡ [] }
     ensures listing { IsListingStep at.new }
     ensures ends { RunEndsAt at.new result }
     ensures bytes { RunByBytes W.meaning at.new world.old world.new result }
     ensures watches { Watches W.meaning world.old world.new }
     ensures reports { Reports W.meaning O.meaning E.meaning world.old out.old err.old world.new out.new err.new result }
-    ensures prints { ServePrints W.meaning O.meaning words.now at.new graph.old requests.now world.old out.old world.new out.new result }
+    ensures prints { ServesPrinting W.meaning O.meaning words.now at.new graph.old requests.now world.old out.old world.new out.new result }
     ensures tells { TellsOrStops E.meaning err.old err.new result }
     ensures faults { IfOk result (λ report. EarlyOnlyIf ⊥ report.faults) }
     ensures status { IfOk result (λ report. HasStatus report.status report.faults) }
@@ -67,6 +71,7 @@ pub(crate) fn list_requests<W: World, O: Sink, E: Sink>(
 #[tactic(auto, using(crate::proofs::Causing::causing))]
 pub(crate) fn view_of<W: World>(alloc: Global, world: &mut W) -> Result<View, StoreRefusal>
     ensures readable { W.meaning.tells world.new → IfOk result (λ view. AreReadable (W.meaning.seen world.old)) }
+    ensures map { W.meaning.tells world.new → IfOk result (ShowsMapOf (W.meaning.seen world.old)) }
     ensures refused { W.meaning.tells world.new → IfErr result (IsRefusal (W.meaning.seen world.old)) }
     ensures watches { Watches W.meaning world.old world.new }
     ensures cause { HasFaultCause W.meaning world.old world.new result }
@@ -86,6 +91,7 @@ fn list_of<W: World>(
 ) -> Result<Listing<RuleId>, ListEnd>
     ensures watches { Watches W.meaning world.old world.new }
     ensures cause { HasListCause (W.meaning.counts world.old) (W.meaning.counts world.new) result }
+    ensures lists { DryLists W.meaning graph.old graph.new hash (map_of_view view.now) nodes.now world.old world.new result }
 {
     dry_list(alloc, graph, nodes, view, hash, world)
 }
@@ -101,7 +107,7 @@ fn tell_rules<O: Sink>(
 ) -> Result<Report, Stop>
     ensures ends { RunEndsAt Step.Listing result }
     ensures reports { SinkReports O.meaning out.old out.new result }
-    ensures prints { PrintsUpTo O.meaning (rules_text words.now graph.now rules.now ++ ending_text words.now graph.now requests.now rules.now []) out.old out.new result }
+    ensures prints { PrintsUpTo O.meaning (list_text words.now graph.now requests.now rules.now) out.old out.new result }
     ensures faults { IfOk result (λ report. report.faults ≡ []) }
     ensures status { IfOk result (λ report. HasStatus report.status report.faults) }
 {

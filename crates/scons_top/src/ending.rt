@@ -6,9 +6,10 @@ ghost use Rattle.rule_graph.specs.Rules.{rule_of};
 ghost use Rattle.scons_top.specs.Faults.{IsEarly, IsEarlyStop, IsLate, IsLateStop, EarlyOnlyIf};
 ghost use Rattle.scons_base.specs.declared.ids.RuleId.{RuleId};
 ghost use Rattle.scons_top.specs.Endings.{ErrFinds, ErrEnds, ErrReports, AddsStopped, AddsUnwritten, Closes, ClosesWith};
-ghost use Rattle.scons_top.specs.Printed.{PrintsUpTo};
-ghost use Rattle.scons_top.specs.RunLines.{AreMarks, closing_text, goes_on, has_started, is_made_by, notice, progress, request_text, requests_text};
-ghost use Rattle.scons_top.specs.Told.{AreShown, IsLine, TellsFaults};
+ghost use Rattle.scons_top.specs.Printed.{RequestPrints};
+ghost use Rattle.scons_top.specs.Sinks.{PrintsUpTo};
+ghost use Rattle.scons_top.specs.RunLines.{AreMarks, closing_text, goes_on, has_started, is_made_by, progress, requests_text};
+ghost use Rattle.scons_top.specs.Told.{IsLine, ShowsFirst, TellsFaults};
 ghost use Rattle.scons_top.specs.Steps.{AllComeAt, AllFoundAt, IsFaultOr, IsStopOr, IsTold, RunEndsAt, ReportsAt};
 ghost use Rattle.scons_top.specs.Stops.{SinkStep, SinkReports, top_of};
 ghost use Rattle.scons_top.specs.declared.report.Top.{Top};
@@ -38,6 +39,7 @@ pub(crate) fn report(
 ) -> Report
     ensures at { result.step ≡ step }
     ensures faults { result.faults ≡ faults }
+    ensures skipped { result.skipped ≡ skipped }
     ensures status { HasStatus result.status result.faults }
     ensures memory { result.status ≢ 3 → memory ≡ false }
 {
@@ -88,6 +90,7 @@ pub(crate) fn ended<E: Sink>(alloc: Global, stop: Stop, step: Step, err: &mut E)
     ensures early { EarlyOnlyIf (IsEarlyStop stop) result.faults }
     ensures status { HasStatus result.status result.faults }
     ensures fails { result.status ≢ 0 }
+    ensures skipped { result.skipped ≡ [] }
     ensures causes { ErrEnds E.meaning stop err.old err.new result }
     ensures tells { TellsFaults E.meaning err.old err.new result }
 {
@@ -118,6 +121,7 @@ fn kept<E: Sink>(
     ensures early { EarlyOnlyIf (IsEarly fault) result.faults }
     ensures status { HasStatus result.status result.faults }
     ensures fails { result.status ≢ 0 }
+    ensures skipped { result.skipped ≡ [] }
     ensures causes { ErrReports E.meaning fault err.old err.new result }
     ensures tells { IfOk text (λ t. IsLine fault (string_bytes t)) → TellsFaults E.meaning err.old err.new result }
 {
@@ -142,7 +146,7 @@ fn keep<E: Sink>(
     ensures finds { OnOk result (ErrFinds E.meaning err.old err.new (faults.old ++ fault ∷ []) faults.new false) }
     ensures lacks { OnErr result (ErrFinds E.meaning err.old err.new (faults.old ++ fault ∷ []) faults.new true) }
     ensures told { E.meaning.tells err.new → E.meaning.tells err.old }
-    ensures shown { faults.old ≡ [] → IfOk text (λ t. IsLine fault (string_bytes t)) → OnOk result (E.meaning.tells err.new → AreShown E.meaning err.old err.new faults.new) }
+    ensures shown { ShowsFirst E.meaning fault text faults.old faults.new err.old err.new result }
 {
     faults.push(fault)?;
     let text = text?;
@@ -203,7 +207,7 @@ fn tell_request<O: Sink>(
 ) -> Result<(), Stop>
     ensures late { IfErr result IsLateStop }
     ensures step { SinkStep (O.meaning.faults out.old) (O.meaning.faults out.new) result }
-    ensures prints { (started : List RuleId) → AreMarks graph.now started marks.now → PrintsUpTo O.meaning (notice words.now (request_text graph.now started request.now)) out.old out.new result }
+    ensures prints { RequestPrints O.meaning words.now graph.now request.now marks.now out.old out.new result }
 {
     let word = request.word.as_str();
     if request.is_plain {
@@ -311,6 +315,7 @@ pub(crate) fn closed(
     ensures causes { Closes found memory written result }
     ensures whole { result.status ≢ 3 → memory ≡ false }
     ensures list { result.status ≢ 3 → ClosesWith found written result.faults }
+    ensures skipped { result.skipped ≡ skipped }
 {
     let mut faults = Listing::empty(alloc);
     let lacks = add_all(&mut faults, found);

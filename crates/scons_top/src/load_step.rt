@@ -4,7 +4,7 @@ ghost use Rattle.std.specs.Prelude.{◌≡◌, [], IfOk, string_bytes};
 ghost use Rattle.report_texts.specs.Texts.{load_text};
 ghost use Rattle.world_api.specs.Statuses.{HasStatus};
 ghost use Rattle.world_mem.specs.AsAround.{around_of};
-ghost use Rattle.scons_top.specs.Printed.{PrintsUpTo};
+ghost use Rattle.scons_top.specs.Sinks.{PrintsUpTo};
 ghost use Rattle.scons_top.specs.Steps.{RunEndsAt};
 ghost use Rattle.scons_top.specs.Stops.{SinkReports};
 

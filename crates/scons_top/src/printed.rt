@@ -1,7 +1,7 @@
 //! What a run writes on standard output besides the lines of rules.
 ghost use Rattle.std.specs.Prelude.{◌≡◌, ℕ, List, IfErr, IfOk, string_bytes};
 ghost use Rattle.scons_top.specs.Faults.{IsLateStop};
-ghost use Rattle.scons_top.specs.Printed.{PrintsUpTo};
+ghost use Rattle.scons_top.specs.Sinks.{PrintsUpTo};
 ghost use Rattle.scons_top.specs.RunLines.{notice, progress};
 ghost use Rattle.scons_top.specs.Stops.{SinkStep};
 

@@ -1,7 +1,8 @@
 //! What the words ask for.
 ghost use Rattle.std.specs.Prelude.{◌≡◌, [], false, map, IfErr, IfOk};
 ghost use Rattle.build_files.specs.Causes.{HasLookCause};
-ghost use Rattle.scons_top.specs.Asked.{asked_by, asked_of, is_target, word_of, words_asked, IsReadAs, IsUnknownAs, IsUnknownOf, IsWord, IsWordIn, NamesNone, StopsFor};
+ghost use Rattle.scons_top.specs.Asked.{asked_by, asked_of, is_target, word_of, words_asked};
+ghost use Rattle.scons_top.specs.Asked.{IsReadAs, IsUnknownAs, IsUnknownOf, IsWord, IsWordIn, NamesNone, StopsFor};
 ghost use Rattle.scons_top.specs.Foreign.{StepByBytes, StepOnNone, StopsByBytes};
 ghost use Rattle.scons_top.specs.Requested.{AsksForNodes, AskForNodes, HasMore, KnowsNodes};
 ghost use Rattle.scons_top.specs.Stops.{WorldStep, InnerStep, IsInside};

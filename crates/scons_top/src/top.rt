@@ -7,7 +7,8 @@ ghost use Rattle.scons_top.specs.Causes.{RunCauses};
 ghost use Rattle.scons_top.specs.Cleaned.{Cleans, RunCleans};
 ghost use Rattle.scons_top.specs.Foreign.{RunByBytes, TellsBytes};
 ghost use Rattle.report_texts.specs.Texts.{help_text};
-ghost use Rattle.scons_top.specs.Printed.{PrintsUpTo, RunPrints, ServePrints};
+ghost use Rattle.scons_top.specs.Printed.{ReportPrints, RunPrints, ServesPrinting, WordsPrint};
+ghost use Rattle.scons_top.specs.Sinks.{PrintsUpTo};
 ghost use Rattle.scons_top.specs.Requested.{AskForNodes};
 ghost use Rattle.scons_top.specs.Steps.{AllComeAt, ComesTo, IsRefused, LeavesAt, RefusesWords, RunEndsAt, RunsTo, ServesAt, TellsUsage};
 ghost use Rattle.scons_top.specs.Stopping.{RunsSafely};
@@ -73,7 +74,7 @@ pub fn scons<W: World, O: Sink, E: Sink>(
     ensures safe { RunsSafely W.meaning world.old world.new }
     ensures status { HasStatus result.status result.faults }
     ensures causes { RunCauses W.meaning O.meaning E.meaning world.old out.old err.old world.new out.new err.new result }
-    ensures prints { (said : Words) → read words.now ≡ Ok said → RunPrints W.meaning O.meaning said result.step world.old out.old world.new out.new (Ok result) }
+    ensures prints { ReportPrints W.meaning O.meaning words.now world.old out.old world.new out.new result }
     ensures tells { TellsFaults E.meaning err.old err.new result }
 {
     let mut at = Step::Words;
@@ -106,7 +107,7 @@ fn take_words<W: World, O: Sink, E: Sink>(
     ensures cleans { (said : Words) → read words.now ≡ Ok said → RunCleans W.meaning said at.new world.old world.new result }
     ensures passes { Passes W.meaning world.old world.new }
     ensures reports { Reports W.meaning O.meaning E.meaning world.old out.old err.old world.new out.new err.new result }
-    ensures prints { (said : Words) → read words.now ≡ Ok said → RunPrints W.meaning O.meaning said at.new world.old out.old world.new out.new result }
+    ensures prints { WordsPrint W.meaning O.meaning words.now at.new world.old out.old world.new out.new result }
     ensures tells { TellsOrStops E.meaning err.old err.new result }
     ensures idle { W.meaning.tells world.new → (W.meaning.around world.new).running ≡ [] }
     ensures dry { (said : Words) → read words.now ≡ Ok said → IsTrue said.dry → Looks W.meaning world.old world.new }
@@ -208,7 +209,7 @@ fn serve<W: World, O: Sink, E: Sink>(
     ensures cleans { AskForNodes graph.old requests.now → RunCleans W.meaning words.now at.new world.old world.new result }
     ensures passes { Passes W.meaning world.old world.new }
     ensures reports { Reports W.meaning O.meaning E.meaning world.old out.old err.old world.new out.new err.new result }
-    ensures prints { AskForNodes graph.old requests.now → ServePrints W.meaning O.meaning words.now at.new graph.old requests.now world.old out.old world.new out.new result }
+    ensures prints { ServesPrinting W.meaning O.meaning words.now at.new graph.old requests.now world.old out.old world.new out.new result }
     ensures tells { TellsOrStops E.meaning err.old err.new result }
     ensures idle { W.meaning.tells world.new → (W.meaning.around world.new).running ≡ [] }
     ensures dry { IsTrue words.now.dry → Looks W.meaning world.old world.new }

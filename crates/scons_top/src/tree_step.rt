@@ -1,11 +1,11 @@
 //! The trees of what was asked for, behind a build without a fault.
-ghost use Rattle.std.specs.Prelude.{IfErr, IfOk};
+ghost use Rattle.std.specs.Prelude.{◌≡◌, [], IfErr, IfOk, Ok};
 ghost use Rattle.scons_top.specs.Causes.{RunCauses};
 ghost use Rattle.scons_top.specs.Faults.{IsLateStop, EarlyOnlyIf};
 ghost use Rattle.scons_top.specs.Steps.{ReportsAt, RunEndsAt};
 ghost use Rattle.scons_top.specs.Stops.{Reports};
 ghost use Rattle.scons_top.specs.Told.{TellsFaults, TellsOrStops};
-ghost use Rattle.scons_top.specs.Trees.{AreTreesCaused};
+ghost use Rattle.scons_top.specs.Trees.{AreTreesCaused, PrintsTreeOf, PrintsTreesOf, TreesPrint};
 ghost use Rattle.scons_top.specs.Watching.{Watches};
 ghost use Rattle.world_api.specs.Statuses.{HasStatus};
 
@@ -36,10 +36,11 @@ pub(crate) fn tell_trees<W: World, O: Sink, E: Sink>(
     out: &mut O,
     err: &mut E,
 ) -> Report
+    requires idle { W.meaning.tells world.old → (W.meaning.around world.old).running ≡ [] }
     ensures watches { Watches W.meaning world.old world.new }
     ensures causes { RunCauses W.meaning O.meaning E.meaning world.old out.old err.old world.new out.new err.new result }
     ensures tells { TellsFaults E.meaning err.old err.new result }
-    ensures out { O.meaning.tells out.new → O.meaning.tells out.old }
+    ensures prints { TreesPrint W.meaning O.meaning words.now declared graph.old requests.now started.now world.old out.old world.new out.new (Ok result) }
     ensures ends { ReportsAt Step.Building result }
     ensures faults { EarlyOnlyIf ⊥ result.faults }
     ensures status { HasStatus result.status result.faults }
@@ -65,10 +66,11 @@ fn show_trees<W: World, O: Sink, E: Sink>(
     out: &mut O,
     err: &mut E,
 ) -> Result<Report, Stop>
+    requires idle { W.meaning.tells world.old → (W.meaning.around world.old).running ≡ [] }
     ensures watches { Watches W.meaning world.old world.new }
     ensures reports { Reports W.meaning O.meaning E.meaning world.old out.old err.old world.new out.new err.new result }
     ensures tells { TellsOrStops E.meaning err.old err.new result }
-    ensures out { O.meaning.tells out.new → O.meaning.tells out.old }
+    ensures prints { TreesPrint W.meaning O.meaning words.now declared graph.old requests.now started.now world.old out.old world.new out.new result }
     ensures ends { RunEndsAt Step.Building result }
     ensures late { IfErr result IsLateStop }
     ensures faults { IfOk result (λ report. EarlyOnlyIf ⊥ report.faults) }
@@ -98,9 +100,10 @@ fn print_trees<W: World, O: Sink>(
     world: &mut W,
     out: &mut O,
 ) -> Result<(), TreeEnd>
+    requires idle { W.meaning.tells world.old → (W.meaning.around world.old).running ≡ [] }
     ensures watches { Watches W.meaning world.old world.new }
     ensures cause { AreTreesCaused W.meaning O.meaning world.old out.old world.new out.new result }
-    ensures out { O.meaning.tells out.new → O.meaning.tells out.old }
+    ensures prints { PrintsTreesOf W.meaning O.meaning declared requests.now graph.old world.old out.old graph.new world.new out.new result }
 {
     for request in requests {
         print_tree(alloc, graph, declared, request, world, out)?;
@@ -118,7 +121,7 @@ fn print_tree<W: World, O: Sink>(
 ) -> Result<(), TreeEnd>
     ensures watches { Watches W.meaning world.old world.new }
     ensures cause { AreTreesCaused W.meaning O.meaning world.old out.old world.new out.new result }
-    ensures out { O.meaning.tells out.new → O.meaning.tells out.old }
+    ensures prints { PrintsTreeOf W.meaning O.meaning declared request.now graph.old world.old out.old graph.new world.new out.new result }
 {
     let word = request.word.as_str();
     let nodes = request.nodes.as_slice();

@@ -1,5 +1,5 @@
 use Rattle.report_texts.specs.Texts.{building_text}
-use Rattle.scons_top.proofs.Serving.{serve_built, serve_treed, serve_unbuilt, serve_unopened}
+use Rattle.scons_top.proofs.Serving.{all_told, none_left, serve_built, serve_treed, serve_unbuilt, serve_unopened}
 use Rattle.scons_top.proofs.Telling.{stops_silent, tells_behind, tells_closed}
 use Rattle.build_run.specs.Causes.{Outside}
 use Rattle.std.specs.Prelude.{Ok}
@@ -14,7 +14,7 @@ use Rattle.sign_store.specs.Stores.{map_of}
 use Rattle.build_run.proofs.Goings.{passes_on}
 use Rattle.scons_top.specs.Requested.{AreNodes}
 use Rattle.scons_top.proofs.Building.{build_done, built_looked, stops, stops_begun}
-use Rattle.scons_top.proofs.Shown.{none_found}
+use Rattle.scons_top.proofs.Shown.{caused_skipping, ends_skipping, none_found, tells_skipping}
 use Rattle.scons_top.proofs.Watching.{idle_of, passes_of}
 use Rattle.scons_top.proofs.Requesting.{are_below_all}
 use Rattle.scons_top.proofs.build_step.build_requests.Goals as goal
@@ -66,10 +66,12 @@ returns-clause-builds g c = λ asks ask tells sure.
     let end = c.build-end in
     let told = end.ensures.told.told tells in
     build_done g.W.Disk.meaning c.args.words.now graph requested (map_of store.store) c.args.world.now c.begin_store.new.world end.new.world
-    (map_of end.new.store) end.result c.closed.result.status store.ensures.begins
+    (map_of end.new.store) end.result c.closed.result store.ensures.begins
     (steps_begun g.W.Disk.meaning g.met.W.Disk.reads_as c.args.world.now c.begin_store.new.world c.begin_store.ensures.goes.passes.told store.ensures.begins)
     told store.ensures.step (store.ensures.map told)
-    (are_below_all graph requested nodes) c.closed.ensures.well tells sure end.ensures.runs end.ensures.succeeds
+    (are_below_all graph requested nodes) c.closed.ensures.well c.closed.ensures.whole
+    (λ ne. all_told end.result.faults c.tell_end-written.result c.closed.result.faults (c.closed.ensures.list ne)) c.closed.ensures.skipped end.ensures.ends
+    tells sure end.ensures.skips end.ensures.succeeds
 
 pub returns-in_err-nodes-clause-safe : goal.returns-in_err-nodes-clause-safe
 returns-in_err-nodes-clause-safe g c = λ asks. steps_here g.W.Disk.meaning g.met.W.Disk.only_now c.args.world.now
@@ -103,11 +105,11 @@ pub returns-then-has_trees-clause-passes : goal.returns-then-has_trees-clause-pa
 returns-then-has_trees-clause-passes g c =
     let m = g.W.Disk.meaning in
     let end = c.build-end in
-    passes_on m _ _ _ c.begin_store.ensures.goes.passes (passes_on m _ end.new.world c.tell_trees.new.world
-    (record { told = end.ensures.told; later = end.ensures.later }) (passes_of m _ _ c.tell_trees.ensures.watches))
+    passes_on m _ _ _ c.begin_store.ensures.goes.passes (passes_on m _ end.new.world c.tell_trees-report.new.world
+    (record { told = end.ensures.told; later = end.ensures.later }) (passes_of m _ _ c.tell_trees-report.ensures.watches))
 
 pub returns-then-has_trees-clause-idle : goal.returns-then-has_trees-clause-idle
-returns-then-has_trees-clause-idle g c = idle_of g.W.Disk.meaning _ _ c.tell_trees.ensures.watches c.build-end.ensures.idle
+returns-then-has_trees-clause-idle g c = idle_of g.W.Disk.meaning _ _ c.tell_trees-report.ensures.watches c.build-end.ensures.idle
 
 pub returns-then-has_trees-clause-reports : goal.returns-then-has_trees-clause-reports
 returns-then-has_trees-clause-reports g c =
@@ -115,7 +117,8 @@ returns-then-has_trees-clause-reports g c =
     let has = c.has_trees.ensures in
     let none = none_found _ _ _ _ (has.faults is) (has.memory is) c.build-end.ensures.causes in
     let same = same_out _ _ _ _ c.in_ok-say.ensures.step ∙ same_world _ _ _ _ c.in_ok-store.ensures.step in
-    caused_back _ _ _ c.tell_trees.result (none ∙ same) c.tell_trees.ensures.causes
+    let skipped = c.build-end.result.skipped in
+    caused_back _ _ _ (record c.tell_trees-report.result { skipped = skipped }) (none ∙ same) (caused_skipping _ _ c.tell_trees-report.result skipped c.tell_trees-report.ensures.causes)
 
 pub returns-then-has_trees-clause-builds : goal.returns-then-has_trees-clause-builds
 returns-then-has_trees-clause-builds g c = λ asks ask tells sure.
@@ -127,18 +130,19 @@ returns-then-has_trees-clause-builds g c = λ asks ask tells sure.
     let nodes = subst (AreNodes graph) (sym c.as_slice.ensures.value) (c.in_ok-nodes.ensures.nodes graph asks) in
     let store = c.in_ok-store in
     let end = c.build-end in
-    let watches = c.tell_trees.ensures.watches in
+    let watches = c.tell_trees-report.ensures.watches in
     let here = watches.looks.told.told tells in
     let told = end.ensures.told.told here in
     let is = c.if-has_trees.true in
     let has = c.has_trees.ensures in
-    let status = c.tell_trees.result.status in
-    built_looked m said old end.new.world c.tell_trees.new.world status watches tells (end.ensures.idle here)
+    let report = record c.tell_trees-report.result { skipped = end.result.skipped } in
+    built_looked m said old end.new.world c.tell_trees-report.new.world report watches tells (end.ensures.idle here)
     (build_done m said graph requested (map_of store.store) old c.begin_store.new.world end.new.world (map_of end.new.store) end.result
-    status store.ensures.begins
+    report store.ensures.begins
     (steps_begun m g.met.W.Disk.reads_as old c.begin_store.new.world c.begin_store.ensures.goes.passes.told store.ensures.begins)
     told store.ensures.step (store.ensures.map told) (are_below_all graph requested nodes)
-    (λ zero. (has.faults is, has.memory is)) here (watches.looks.told.sure tells sure) end.ensures.runs end.ensures.succeeds)
+    (λ zero. (has.faults is, has.memory is)) (λ ne. has.memory is) (λ ne. none_left end.result.faults report.faults (has.faults is)) refl end.ensures.ends
+    here (watches.looks.told.sure tells sure) end.ensures.skips end.ensures.succeeds)
 
 pub returns-then-has_trees-clause-safe : goal.returns-then-has_trees-clause-safe
 returns-then-has_trees-clause-safe g c = λ asks.
@@ -149,11 +153,11 @@ returns-then-has_trees-clause-safe g c = λ asks.
     let old = c.args.world.now in
     let begun = c.begin_store in
     let end = c.build-end in
-    runs_looked m g.met.W.Disk.only_now old end.new.world c.tell_trees.new.world
+    runs_looked m g.met.W.Disk.only_now old end.new.world c.tell_trees-report.new.world
     (steps_on m old begun.new.world end.new.world end.ensures.told
     (steps_begun m g.met.W.Disk.reads_as old begun.new.world begun.ensures.goes.passes.told begun.ensures.begins)
     (λ s law truth. end.ensures.safe s law truth (are_below_all graph requested nodes)))
-    c.tell_trees.ensures.watches.looks
+    c.tell_trees-report.ensures.watches.looks
 
 pub returns-in_err-nodes-clause-ends : goal.returns-in_err-nodes-clause-ends
 returns-in_err-nodes-clause-ends g c = ends_memory step.Store c.from_residual.result c.from_residual.ensures.1
@@ -165,7 +169,7 @@ pub returns-in_err-say-clause-ends : goal.returns-in_err-say-clause-ends
 returns-in_err-say-clause-ends g c = let r = c.from_residual-in_err-say in ends_exit step.Building r.result _ r.ensures.1 (sink_at step.Building _ _ _ c.in_err-say.ensures.step)
 
 pub returns-then-has_trees-clause-ends : goal.returns-then-has_trees-clause-ends
-returns-then-has_trees-clause-ends g c = c.tell_trees.ensures.ends
+returns-then-has_trees-clause-ends g c = ends_skipping step.Building c.tell_trees-report.result c.build-end.result.skipped c.tell_trees-report.ensures.ends
 
 pub returns-clause-ends : goal.returns-clause-ends
 returns-clause-ends g c = reports_at step.Building c.closed.result c.closed.ensures.at (c.closed.ensures.ends (building_at _))
@@ -188,7 +192,7 @@ pub returns-in_err-say-clause-bytes : goal.returns-in_err-say-clause-bytes
 returns-in_err-say-clause-bytes g c = λ t. building_ends _ c.from_residual-in_err-say.result (c.in_ok-store.ensures.readable t) (returns-in_err-say-clause-ends g c)
 
 pub returns-then-has_trees-clause-bytes : goal.returns-then-has_trees-clause-bytes
-returns-then-has_trees-clause-bytes g c = λ t. building_ends _ (Ok c.tell_trees.result) (c.in_ok-store.ensures.readable (c.build-end.ensures.told.told (c.tell_trees.ensures.watches.looks.told.told t))) c.tell_trees.ensures.ends
+returns-then-has_trees-clause-bytes g c = λ t. building_ends _ (Ok (record c.tell_trees-report.result { skipped = c.build-end.result.skipped })) (c.in_ok-store.ensures.readable (c.build-end.ensures.told.told (c.tell_trees-report.ensures.watches.looks.told.told t))) (returns-then-has_trees-clause-ends g c)
 
 pub returns-clause-bytes : goal.returns-clause-bytes
 returns-clause-bytes g c = λ t. building_ends _ (Ok c.closed.result) (c.in_ok-store.ensures.readable (c.build-end.ensures.told.told t)) (returns-clause-ends g c)
@@ -209,9 +213,16 @@ returns-in_err-say-clause-prints g c = λ asks.
 
 pub returns-then-has_trees-clause-prints : goal.returns-then-has_trees-clause-prints
 returns-then-has_trees-clause-prints g c = λ asks.
-    serve_treed g.W.Disk.meaning g.O.Sink.meaning c.args.words.now c.args.graph.now c.args.requests.now c.args.world.now _ c.args.out.now _ c.tell_trees.result
-    (c.has_trees.ensures.tree c.if-has_trees.true)
-    (λ t. (c.in_ok-say.ensures.prints building_text c.building_text.ensures).told (c.build-end.ensures.prints.told (c.tell_trees.ensures.out t)))
+    let graph = c.args.graph.now in
+    let requested = c.as_slice.result.now in
+    let nodes = subst (AreNodes graph) (sym c.as_slice.ensures.value) (c.in_ok-nodes.ensures.nodes graph asks) in
+    let store = c.in_ok-store in
+    let end = c.build-end in
+    serve_treed g.W.Disk.meaning g.O.Sink.meaning c.args.words.now graph end.new.graph c.args.requests.now requested _ _ c.args.world.now c.begin_store.new.world end.new.world
+    c.tell_trees-report.new.world c.args.out.now _ end.new.out c.tell_trees-report.new.out (map_of store.store) (map_of end.new.store) end.result c.tell_trees-report.result
+    (c.as_slice.ensures.value ∙ c.in_ok-nodes.ensures.are) (are_below_all graph requested nodes) c.rules-declared.ensures.len store.ensures.begins end.ensures.told.told store.ensures.map
+    (c.in_ok-say.ensures.prints building_text c.building_text.ensures) end.ensures.prints c.tell_trees-report.ensures.watches.looks end.ensures.idle
+    (c.has_trees.ensures.shows c.if-has_trees.true) c.tell_trees-report.ensures.prints
 
 pub returns-clause-prints : goal.returns-clause-prints
 returns-clause-prints g c = λ asks.
@@ -223,7 +234,7 @@ returns-clause-prints g c = λ asks.
     serve_built g.W.Disk.meaning g.O.Sink.meaning c.args.words.now graph end.new.graph c.args.requests.now requested c.args.world.now c.begin_store.new.world end.new.world
     c.args.out.now _ end.new.out c.tell_end-written.new.out (map_of store.store) (map_of end.new.store) end.result c.tell_end-written.result c.closed.result
     (c.as_slice.ensures.value ∙ c.in_ok-nodes.ensures.are) (are_below_all graph requested nodes) store.ensures.begins end.ensures.told.told store.ensures.map
-    (c.in_ok-say.ensures.prints building_text c.building_text.ensures) end.ensures.prints c.tell_end-written.ensures.prints c.closed.ensures.whole c.closed.ensures.list
+    (c.in_ok-say.ensures.prints building_text c.building_text.ensures) end.ensures.prints c.tell_end-written.ensures.prints (c.has_trees.ensures.plain c.if-has_trees.false) c.closed.ensures.whole c.closed.ensures.list
 
 pub returns-in_err-nodes-clause-tells : goal.returns-in_err-nodes-clause-tells
 returns-in_err-nodes-clause-tells g c = stops_silent g.E.Sink.meaning c.args.err.now _ c.from_residual.result c.from_residual.ensures.1
@@ -239,7 +250,9 @@ returns-then-has_trees-clause-tells g c =
     let is = c.if-has_trees.true in
     let has = c.has_trees.ensures in
     let none = none_found _ _ _ _ (has.faults is) (has.memory is) c.build-end.ensures.causes in
-    tells_behind g.E.Sink.meaning _ _ _ c.build-end.result c.tell_trees.result c.build-end.ensures.tells (has.faults is) (has.memory is) (ap (λ (o : Outside). o.err) none) c.tell_trees.ensures.tells
+    let skipped = c.build-end.result.skipped in
+    tells_behind g.E.Sink.meaning _ _ _ c.build-end.result (record c.tell_trees-report.result { skipped = skipped }) c.build-end.ensures.tells (has.faults is) (has.memory is) (ap (λ (o : Outside). o.err) none)
+    (tells_skipping g.E.Sink.meaning _ _ c.tell_trees-report.result skipped c.tell_trees-report.ensures.tells)
 
 pub returns-clause-tells : goal.returns-clause-tells
 returns-clause-tells g c = tells_closed g.E.Sink.meaning _ _ c.build-end.result c.tell_end-written.result c.closed.result c.build-end.ensures.tells c.closed.ensures.whole c.closed.ensures.list

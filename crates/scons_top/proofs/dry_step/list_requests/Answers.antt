@@ -5,11 +5,14 @@ use Rattle.scons_top.proofs.Serving.{serve_unopened}
 use Rattle.scons_top.proofs.Opening.{stops_unopened, store_unopened, listing_ends}
 use Rattle.scons_top.specs.declared.step.Step.TheVariants as step
 use Rattle.scons_top.proofs.Stepping.{ends_memory, ends_store, ends_exit, store_at, sink_at, listing_at}
-use Rattle.std.proofs.Common.{◌∙◌, refl}
+use Rattle.std.proofs.Common.{◌∙◌, refl, subst, sym}
 use Rattle.build_run.specs.Causes.{outside}
 use Rattle.scons_top.specs.declared.stop.Stop.TheVariants as stop
 use Rattle.scons_top.proofs.Watching.{watches_on}
 use Rattle.scons_top.proofs.Causing.{same_world, same_out, exit_report, exit_store, report_memory, world_stop, store_end, store_well, sink_stop, stop_back, report_back, list_alone, list_faulty, list_later}
+use Rattle.scons_top.specs.Requested.{AreNodes, nodes_asked}
+use Rattle.scons_top.proofs.Listing.{lists_found}
+use Rattle.scons_top.proofs.Requesting.{are_below_all}
 use Rattle.scons_top.proofs.dry_step.list_requests.Goals as goal
 
 pub returns-in_err-nodes-clause-reports : goal.returns-in_err-nodes-clause-reports
@@ -101,12 +104,12 @@ pub returns-in_err-say-clause-tells : goal.returns-in_err-say-clause-tells
 returns-in_err-say-clause-tells g c = stops_silent g.E.Sink.meaning c.args.err.now _ c.from_residual-in_err-say.result c.from_residual-in_err-say.ensures.1
 
 pub returns-in_err-nodes-clause-prints : goal.returns-in_err-nodes-clause-prints
-returns-in_err-nodes-clause-prints g c =
+returns-in_err-nodes-clause-prints g c = λ asks.
     serve_unopened g.W.Disk.meaning g.O.Sink.meaning c.args.words.now c.args.graph.now c.args.requests.now c.args.world.now c.args.world.now c.args.out.now c.from_residual.result
 
 pub returns-in_err-view-clause-prints : goal.returns-in_err-view-clause-prints
-returns-in_err-view-clause-prints g c =
-    serve_unopened g.W.Disk.meaning g.O.Sink.meaning c.args.words.now c.args.graph.now c.args.requests.now c.args.world.now c.args.world.now c.args.out.now c.from_residual-in_err-view.result
+returns-in_err-view-clause-prints g c = λ asks.
+    serve_unopened g.W.Disk.meaning g.O.Sink.meaning c.args.words.now c.args.graph.now c.args.requests.now c.args.world.now c.view_of.new.world c.args.out.now c.from_residual-in_err-view.result
 
 pub returns-in-Ok-clause-tells : goal.returns-in-Ok-clause-tells
 returns-in-Ok-clause-tells g c = none_told g.E.Sink.meaning c.args.err.now c.tell_rules.result c.tell_rules.ensures.faults
@@ -115,22 +118,30 @@ pub returns-in-Ok-clause-faults : goal.returns-in-Ok-clause-faults
 returns-in-Ok-clause-faults g c = early_none c.tell_rules.result c.tell_rules.ensures.faults
 
 pub returns-in_err-say-clause-prints : goal.returns-in_err-say-clause-prints
-returns-in_err-say-clause-prints g c =
+returns-in_err-say-clause-prints g c = λ asks.
     let r = c.from_residual-in_err-say in
     let h = c.in_err-say.ensures.prints building_text c.building_text.ensures in
-    serve_unlisted g.W.Disk.meaning g.O.Sink.meaning c.args.words.now c.args.graph.now c.args.requests.now c.args.world.now c.args.world.now c.args.out.now c.args.out.now _ r.result _ r.ensures.1 h.0 h.1
+    serve_unlisted g.W.Disk.meaning g.O.Sink.meaning c.args.words.now c.args.graph.now c.args.requests.now c.args.world.now c.view_of.new.world c.args.out.now c.args.out.now _ r.result _ r.ensures.1 h.0 h.1
 
 pub returns-in-Ok-clause-prints : goal.returns-in-Ok-clause-prints
-returns-in-Ok-clause-prints g c =
-    serve_listed g.W.Disk.meaning g.O.Sink.meaning c.args.words.now c.args.graph.now c.args.requests.now c.args.world.now c.args.world.now c.args.out.now c.say.new.out _ c.list_of.new.graph _ c.tell_rules.result
+returns-in-Ok-clause-prints g c = λ asks.
+    let m = g.W.Disk.meaning in
+    let graph = c.args.graph.now in
+    let requested = c.as_slice.result.now in
+    let nodes = subst (AreNodes graph) (sym c.as_slice.ensures.value) (c.in_ok-nodes.ensures.nodes graph asks) in
+    let reading = c.view_of.ensures.watches.looks in
+    serve_listed m g.O.Sink.meaning c.args.words.now graph c.args.requests.now c.args.world.now c.list_of.new.world c.args.out.now c.say.new.out _ c.list_of.new.graph _ c.tell_rules.result
     c.tell_rules.ensures.faults (c.in_ok-say.ensures.prints building_text c.building_text.ensures) c.tell_rules.ensures.prints
+    (lists_found m graph c.list_of.new.graph c.args.words.now.hash _ requested (nodes_asked c.args.requests.now) _ _ c.args.world.now c.view_of.new.world c.list_of.new.world
+    reading c.list_of.ensures.watches.looks.told.told c.requires.idle c.in_ok-view.ensures.map (c.as_slice.ensures.value ∙ c.in_ok-nodes.ensures.are)
+    (are_below_all graph requested nodes) c.as_slice-in-Ok.ensures c.in-Ok.ensures.lists)
 
 pub returns-clause-prints : goal.returns-clause-prints
-returns-clause-prints g c =
-    serve_faulty g.W.Disk.meaning g.O.Sink.meaning c.args.words.now c.args.graph.now c.args.requests.now c.args.world.now c.args.world.now c.args.out.now c.say.new.out _ _ c.end_with.result
+returns-clause-prints g c = λ asks.
+    serve_faulty g.W.Disk.meaning g.O.Sink.meaning c.args.words.now c.args.graph.now c.args.requests.now c.args.world.now c.list_of.new.world c.args.out.now c.say.new.out _ _ c.end_with.result
     (c.in_ok-say.ensures.prints building_text c.building_text.ensures) c.end_with.ensures.prints
 
 pub returns-in-Err-Memory-clause-prints : goal.returns-in-Err-Memory-clause-prints
-returns-in-Err-Memory-clause-prints g c =
-    serve_wanting g.W.Disk.meaning g.O.Sink.meaning c.args.words.now c.args.graph.now c.args.requests.now c.args.world.now c.args.world.now c.args.out.now c.args.out.now c.say.new.out
+returns-in-Err-Memory-clause-prints g c = λ asks.
+    serve_wanting g.W.Disk.meaning g.O.Sink.meaning c.args.words.now c.args.graph.now c.args.requests.now c.args.world.now c.list_of.new.world c.args.out.now c.args.out.now c.say.new.out
     (c.in_ok-say.ensures.prints building_text c.building_text.ensures)

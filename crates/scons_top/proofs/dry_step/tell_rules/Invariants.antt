@@ -1,5 +1,5 @@
 use Rattle.std.proofs.Common.{◌≡◌, take}
-use Rattle.scons_top.specs.Printed.{Printed}
+use Rattle.scons_top.specs.Sinks.{Printed}
 use Rattle.scons_top.specs.RunLines.{rules_text}
 use Rattle.scons_top.proofs.dry_step.tell_rules.Given as goal
 

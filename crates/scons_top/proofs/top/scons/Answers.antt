@@ -15,7 +15,7 @@ pub returns-in-Ok-clause-builds : goal.returns-in-Ok-clause-builds
 returns-in-Ok-clause-builds g c = λ said is ask tells sure. inl (c.in-Ok.ensures.builds said is ask tells sure)
 
 pub returns-in-Err-clause-builds : goal.returns-in-Err-clause-builds
-returns-in-Err-clause-builds g c = λ said is ask tells sure. inr (c.ended.ensures.fails, c.in-Err.ensures.builds said is ask tells sure)
+returns-in-Err-clause-builds g c = λ said is ask tells sure. inr (c.ended.ensures.fails, c.ended.ensures.skipped, c.in-Err.ensures.builds said is ask tells sure)
 
 pub returns-in-Ok-clause-comes : goal.returns-in-Ok-clause-comes
 returns-in-Ok-clause-comes g c = λ said is. comes_as said _ _ c.in-Ok.ensures.ends.ends (c.in-Ok.ensures.comes said is)

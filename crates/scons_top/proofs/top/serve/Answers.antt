@@ -76,4 +76,4 @@ pub returns-then-words-clause-prints : goal.returns-then-words-clause-prints
 returns-then-words-clause-prints g c = λ asks. c.clean_requests.ensures.prints asks
 
 pub returns-then-words-2-clause-prints : goal.returns-then-words-2-clause-prints
-returns-then-words-2-clause-prints g c = λ asks. c.list_requests.ensures.prints
+returns-then-words-2-clause-prints g c = λ asks. c.list_requests.ensures.prints asks
