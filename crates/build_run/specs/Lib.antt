@@ -13,6 +13,7 @@ pub mod StartTexts
 pub mod Output
 pub mod Outsets
 pub mod Reasons
+pub mod Remembering
 pub mod Safe
 pub mod Shown
 pub mod Sites
@@ -20,4 +21,5 @@ pub mod Skips
 pub mod Takes
 pub mod Truth
 pub mod Withdrawals
+pub mod Watches
 pub mod Whys
