@@ -1,5 +1,6 @@
 -- A job that starts is to have the record of its ticket.
 use Rattle.std.proofs.Common.{◌≡◌, ◌≢◌, ◌∙◌, ◌∷◌, List, [], Contains, Some, None, map, ap, false, inl, inr, refl, sym, subst}
+use Rattle.scons_base.specs.declared.ids.RuleId.{RuleId}
 use Rattle.deciders.specs.Records.{name_of}
 use Rattle.deciders.specs.declared.recorded.Rec.{Rec}
 use Rattle.sign_store.specs.Stores.{IsTicket, KeepsTickets}
@@ -19,13 +20,15 @@ use Rattle.turn_means.specs.Laws.{HasMet}
 use Rattle.turn_means.specs.Safety.{IsTicketOf}
 use Rattle.build_run.specs.Goings.{Launches}
 use Rattle.build_run.specs.Holds.{Busy}
-use Rattle.build_run.specs.Safe.{GoesSafely, HasOwnRecord, IsOverFiles, SiteGoesSafely, StartsSafely}
+use Rattle.build_run.specs.Safe.{DecidesSafely, GoesSafely, HasOwnRecord, IsOverFiles, IsStartable, IsWeighedSome, SiteGoesSafely, StartsSafely}
+use Rattle.build_run.specs.Watches.{Watch, Allows}
 use Rattle.build_run.specs.declared.site.Site.{Site}
 use Rattle.build_run.proofs.Clearing.{clears_around}
 use Rattle.build_run.proofs.Goings.{told_here}
 use Rattle.build_run.proofs.Holding.{at_front, further, in_pushed}
-use Rattle.build_run.proofs.Safely.{safe_on, safely_here}
-use Rattle.build_run.proofs.Stopping.{site_looked}
+use Rattle.build_run.proofs.Safely.{safely_here}
+use Rattle.build_run.proofs.Stopping.{site_looked, site_then}
+use Rattle.build_run.proofs.Watching.{allows_on, may_put, same_met}
 
 -- the store alone is another, with the same tickets
 pub site_kept : {W O E : Type 0} (m : Meaning W) → HasOnlyNow m → (a b : Site W O E) → b.world.now ≡ a.world.now → KeepsTickets a.store.now b.store.now →
@@ -53,20 +56,24 @@ given_met around met [] still x h = elim h [ ]
 given_met around met (p ∷ paths) still x here = met_at around met p (still p (at_front paths p)) (around.tree p) refl
 given_met around met (p ∷ paths) still x (there h) = given_met around met paths (λ q k. still q (further paths p q k)) x h
 
-pub own_launched : (s : Setting) (job : Job) (counts : Counts) (old new : Around) (rec : Rec) (store : Store) (busy : Busy) → Launches job counts old new →
-    IsOverFiles s old rec → IsTicket store rec busy.ticket → job.work ≡ rec.work → job.signed ≡ rec.signed → job.targets ≡ rec.targets →
+pub own_launched : (k : Watch) (job : Job) (counts : Counts) (old new : Around) (rec : Rec) (store : Store) (busy : Busy) → Launches job counts old new →
+    IsStartable k old rec → IsTicket store rec busy.ticket → job.work ≡ rec.work → job.signed ≡ rec.signed → job.targets ≡ rec.targets →
     job.deps ≡ map name_of rec.deps → rec.targets ≡ busy.hold.targets → job.id ≡ busy.hold.rule.0 →
-    ((run : Running) → Contains old.running run → run.job.id ≢ job.id) → HasOwnRecord s store new busy
-own_launched s job counts old new rec store busy launch over ticket work signed targets deps made id other = record {
+    ((run : Running) → Contains old.running run → run.job.id ≢ job.id) → HasOwnRecord k store new busy
+own_launched k job counts old new rec store busy launch startable ticket work signed targets deps made id other = record {
   rec = rec;
   is = ticket;
   targets = made;
   each = λ run h own. elim (in_pushed launch.mid.running started run (subst (λ (runs : List Running). Contains runs run) launch.starts.running h)) [
     | inl before ↦ absurd (other run (subst (λ (runs : List Running). Contains runs run) launch.clears.running before) (own ∙ sym id))
-    | inr same ↦ subst (λ (r : Running). IsTicketOf s new.met r rec) same ticket_of
+    | inr same ↦ subst (λ (r : Running). IsTicketOf k.setting new.met r rec) same ticket_of
   ];
+  puts = may_put k old new (same_met old new (launch.starts.met ∙ launch.clears.met)) rec startable.allows.puts;
 }
   where
+    over : IsOverFiles k.setting old rec
+    over = startable.over
+
     started : Running
     started = record { job = job; given = given_of launch.mid.tree job.deps }
 
@@ -76,12 +83,12 @@ own_launched s job counts old new rec store busy launch over ticket work signed 
         ∙ given_on old.tree launch.mid.tree (map name_of rec.deps)
         (λ path h. launch.clears.files path (over.still path h) (λ t. over.apart path (subst (λ (all : List Path). Contains all path) targets t) h))
 
-    ticket_of : IsTicketOf s new.met (record { job = job; given = given_of launch.mid.tree job.deps }) rec
+    ticket_of : IsTicketOf k.setting new.met (record { job = job; given = given_of launch.mid.tree job.deps }) rec
     ticket_of = record {
       work = sym work;
       signed = sym signed;
       targets = sym targets;
-      digests = ap (map (digested s (record_in rec).hash)) given_same ∙ over.digests;
+      digests = ap (map (digested k.setting (record_in rec).hash)) given_same ∙ over.digests;
       each_met = λ x n. subst (λ (met : List Bytes). IsMet met x.1) (sym (launch.starts.met ∙ launch.clears.met))
           (given_met old over.met (map name_of rec.deps) over.still x (subst (λ l. Among x l) given_same n));
     }
@@ -101,15 +108,15 @@ over_asked s old new rec asks over = record {
     was : (path : Path) → (IsRunningTarget new.running path → ⊥) → IsRunningTarget old.running path → ⊥
     was path free target = free (subst (λ (runs : List Running). IsRunningTarget runs path) (sym asks.running) target)
 
--- a rule starts behind a look
-pub starts_behind : {W O E : Type 0} (m : Meaning W) (a mid b : Site W O E) (rec : Rec) → Looks m a.world.now mid.world.now →
-    Told m mid.world.now b.world.now → SiteGoesSafely m a mid → StartsSafely m mid b rec → StartsSafely m a b rec
-starts_behind m a mid b rec looks told first then s safe over =
-    let one = first s safe in
-    let two = then s one.now (λ tells sure. over_asked s (m.around a.world.now) (m.around mid.world.now) rec (looks.around tells)
-    (over (looks.told.told tells) (looks.told.sure tells sure))) in
+-- a rule starts behind a look, where it may be started with its record
+pub starts_behind : {W O E : Type 0} (m : Meaning W) (a mid b : Site W O E) (rule : RuleId) (rec : Rec) → Looks m a.world.now mid.world.now →
+    Told m mid.world.now b.world.now → SiteGoesSafely m a mid → StartsSafely m mid b rec →
+    (m.tells mid.world.now → (k : Watch) → IsWeighedSome m k a rule rec → Allows k (m.around a.world.now) rec) → DecidesSafely m a b rule rec
+starts_behind m a mid b rule rec looks told first then allows k safe weighed =
+    site_then m k a mid b told (first k safe) (λ now. then k now (λ tells sure.
+    let before = weighed (looks.told.told tells) (looks.told.sure tells sure) in
     record {
-      moments = (safe_on m s a.world.now mid.world.now b.world.now told (record { moments = one.moments; now = one.now.world })
-          (λ now. record { moments = two.moments; now = two.now.world })).moments;
-      now = two.now;
-    }
+      over = over_asked k.setting (m.around a.world.now) (m.around mid.world.now) rec (looks.around tells) before.over;
+      allows = allows_on k (m.around a.world.now) (m.around mid.world.now)
+          (same_met (m.around a.world.now) (m.around mid.world.now) (looks.around tells).met) rec (allows tells k before);
+    }))

@@ -5,7 +5,7 @@ use Rattle.build_model.proofs.Lists.{true_false}
 use Rattle.scons_base.specs.declared.ids.NodeId.{NodeId}
 use Rattle.world_api.specs.Around.{Around, IsRunningTarget}
 use Rattle.world_api.specs.Calls.{Asks, Grows}
-use Rattle.world_api.specs.Meaning.{Meaning, IsImage}
+use Rattle.world_api.specs.Meaning.{Meaning, IsImage, Told}
 use Rattle.world_api.specs.Printed.{SinkMeaning}
 use Rattle.world_api.specs.declared.hash.Hash.{Hash}
 use Rattle.rule_graph.specs.Graphs.{RuleGraph}
@@ -38,18 +38,22 @@ use Rattle.build_run.specs.Along.{is_faulted}
 use Rattle.build_run.specs.Ledgers.{Ledger, ledger_of, blank}
 use Rattle.build_run.specs.Output.{BuildPrints, MakesPrinted}
 use Rattle.build_run.specs.Outsets.{wanted_of, GoesByContent, BuildRuns, BuildSucceeds, HasMade, HasRun, HasSetOut, IsBlank, IsReadyFor, Leaves, MakesAll, SetsOut, SetsOutBehind, StandFor, StaysKept}
-use Rattle.build_run.specs.Safe.{HasOutset, IsSafeNow, StaysSafe}
+use Rattle.build_run.specs.Remembering.{HasRemembered}
+use Rattle.build_run.specs.Safe.{HasOutset, MakesSafely, TakesSafely}
 use Rattle.build_run.specs.Skips.{AreSkips, BuildSkips, MakesSkipping}
 use Rattle.build_run.specs.Takes.{IsLeftAt}
 use Rattle.build_run.specs.Endings.{CountsEndings}
 use Rattle.build_run.specs.Unrecorded.{BuildCounts, EndsAll}
 use Rattle.build_run.specs.Truth.{TellsTruth}
+use Rattle.build_run.specs.Watches.{Covers, Watch}
 use Rattle.build_run.specs.declared.account.Account.{Account}
 use Rattle.build_run.proofs.Unrecorded.{has_counted}
 use Rattle.build_run.proofs.BuildPrinting.{none_printed}
 use Rattle.build_run.proofs.StepTexts.{steps_printed}
 use Rattle.build_run.proofs.EndingOn.{not_before}
-use Rattle.build_run.proofs.Stopped.{safe_first}
+use Rattle.build_run.proofs.Remembering.{has_remembered}
+use Rattle.build_run.proofs.Safely.{safe_on}
+use Rattle.build_run.proofs.Stopped.{safe_first, unwatched}
 use Rattle.build_run.specs.declared.building.Options.{Options}
 use Rattle.build_run.specs.declared.end.BuildEnd.{BuildEnd}
 use Rattle.build_run.specs.declared.site.Run.{Run}
@@ -116,9 +120,9 @@ module _ {W : Type 0} (m : Meaning W) (g : RuleGraph) (requested : List NodeId) 
   module _ (h : RuleGraph) (run : Run) (account : Account) (back : m.tells b → m.tells a) (same : m.counts b ≡ m.counts a)
       (sets : SetsOutBehind m g requested options.hash a store h b mid run) (first : IsBlank account)
       (reads : m.tells b → IsImage m b (m.seen b)) (kept : IsKept m b mid) (sure_back : m.tells c → m.sure c → m.sure b)
-      (safe : (s : Setting) → IsSafeNow m s a → StaysSafe m s a b) (are_right : RunsAreRight) where
+      (safe : TakesSafely m (IsLeftAt g (m.around a) (map_of store)) a b) (are_right : RunsAreRight) where
     module _ (tells : m.tells b) (below : are_below (length g.nodes) requested ≡ true) where
-      has : HasSetOut m g requested options.hash a (map_of store) h run b (map_of mid)
+      pub has : HasSetOut m g requested options.hash a (map_of store) h run b (map_of mid)
       has = sets tells (rest (back tells)) below
 
       abbrev o : Outset
@@ -134,8 +138,24 @@ module _ {W : Type 0} (m : Meaning W) (g : RuleGraph) (requested : List NodeId) 
         blank = first;
       }
 
-      pub has_outset : HasOutset m h run mid b account options
-      has_outset = record { o = o; ready = ready }
+      pub has_outset : (k : Watch) → Covers k o → HasOutset m k h run mid b account options
+      has_outset k covers = record { o = o; covers = covers; ready = ready }
+
+      -- as it began what stood was safe
+      begun_safe : m.sure b → TellsTruth m (setting_in w (m.around a)) a → IsSafe (setting_in w (m.around a)) (m.around b) (map_of mid)
+      begun_safe sure truth =
+          let s = setting_in w (m.around a) in
+          let now = (safe (unwatched s) (λ t left. refl) (safe_first m (unwatched s) a rest (λ t u. record { acts = refl; digests = refl }) (λ e. truth)
+          (λ t banks image minds. absurd minds))).now tells sure in
+          subst (λ (records : Map). IsSafe s (m.around b) records) (kept.each tells (m.seen b) (reads tells)).image
+          (now.images refl (m.seen b) (reads tells))
+
+      -- and what was met since leaves it so
+      pub sound_then : m.sure b → TellsTruth m (setting_in w (m.around a)) a → (after : Around) → Grows has.left.met after.met →
+          AreSound (setting_in w has.left) after.met has.left.tree (records_in (map_of mid))
+      sound_then sure truth after grows =
+          sound_before (setting_in w (m.around a)) (setting_in w has.left) has.left (m.around b) after (map_of mid)
+          (ap act_by has.rest.law) refl ready.sets.set.around grows (begun_safe sure truth)
 
     module _ (after : Account) (told : m.tells c → m.tells b) (last : Store) (makes : MakesAll m h run mid b account options c after last)
         (rose : after.is_store_shut ≡ true → Rose (m.counts a).disk_faults (m.counts c).disk_faults) (stays : StaysKept m c last after) where
@@ -146,27 +166,15 @@ module _ {W : Type 0} (m : Meaning W) (g : RuleGraph) (requested : List NodeId) 
           HasMade (o (told tells) below) (m.around c) after (map_of last)
       made tells sure below = makes tells sure (o (told tells) below) (ready (told tells) below)
 
-      -- as it began what stood was safe
-      begun_safe : m.tells b → m.sure b → TellsTruth m (setting_in w (m.around a)) a → IsSafe (setting_in w (m.around a)) (m.around b) (map_of mid)
-      begun_safe tells sure truth =
-          let s = setting_in w (m.around a) in
-          let now = (safe s (safe_first m s a rest (λ t u. record { acts = refl; digests = refl }) truth)).now tells sure in
-          subst (λ (records : Map). IsSafe s (m.around b) records) (kept.each tells (m.seen b) (reads tells)).image (now.images (m.seen b) (reads tells))
-
-      went_by : (tells : m.tells c) → m.sure c → (below : are_below (length g.nodes) requested ≡ true) → TellsTruth m (setting_in w (m.around a)) a →
-          AreSound (setting_in w (has (told tells) below).left) (m.around c).met (has (told tells) below).left.tree (records_in (map_of mid))
-      went_by tells sure below truth =
-          let here = told tells in
-          let behind = has here below in
-          let set = (ready here below).sets.set in
-          sound_before (setting_in w (m.around a)) (setting_in w behind.left) behind.left (m.around b) (m.around c) (map_of mid)
-          (ap act_by behind.rest.law) refl set.around (made tells sure below).met (begun_safe here (sure_back tells sure) truth)
-
       -- where what stood before told the truth, and by content, the build goes by sound records
       by_content : (tells : m.tells c) → m.sure c → (below : are_below (length g.nodes) requested ≡ true) → TellsTruth m (setting_in w (m.around a)) a →
           GoesByContent w (map_of mid) (has (told tells) below).left (m.around c) → IsByContent w (map_of mid) (has (told tells) below).left (m.around c)
       by_content tells sure below truth by =
-          record { sound = went_by tells sure below truth; distinct = by.distinct; decider = by.decider }
+          record {
+            sound = sound_then (told tells) below (sure_back tells sure) truth (m.around c) (made tells sure below).met;
+            distinct = by.distinct;
+            decider = by.decider;
+          }
 
       abbrev has_run : (answer : BuildEnd) → answer.is_ended ≡ after.is_ended → m.tells c → m.sure c → are_below (length g.nodes) requested ≡ true →
           HasRun m w (map_of store) a c (map_of last) answer.is_ended
@@ -215,6 +223,16 @@ module _ {W : Type 0} (m : Meaning W) (g : RuleGraph) (requested : List NodeId) 
                 stands tells (did.unshut (not_before after.is_ended (is_faulted after) did.told (faulted none memory)));
             clean = λ truth by. well.succeeded.built (by_content tells sure below truth by);
           }
+
+    -- and what was recorded at every moment of it
+    pub build_remembers : IsKept m a store → Told m b c → MakesSafely m h run mid b account options c → m.tells c → m.sure c →
+        are_below (length g.nodes) requested ≡ true → HasRemembered m w (map_of store) a c
+    build_remembers stands told makes tells sure below =
+        let here = told.told tells in
+        let behind = has here below in
+        has_remembered m w read below store a c rest stands behind.left (map_of mid) behind.rest (Unit {0})
+        (λ k left covers first. safe_on m k a b c told (safe k left first) (makes k (λ t u. has_outset here below k (covers tt))))
+        (λ went truth after grows. sound_then here below (told.sure tells sure) truth after grows)
 
     -- and what it skipped
     pub build_skipped : (after : Account) (told : m.tells c → m.tells b) (last : Store) (skipped : List (Path × Path)) →
@@ -269,6 +287,13 @@ module _ {W : Type 0} (m : Meaning W) (g : RuleGraph) (requested : List NodeId) 
             subst (λ (steps : List Step). EachStep (setting_in w (m.around c)) (build_in w (map_of mid) (m.around c) (m.around c))
             (clean_build (graph_in w (m.around c)) (m.around c).tree) steps) (sym ran.1) (no_steps _ _ _);
       }
+
+  pub refused_remembers : IsKept m a store → (m.tells c → m.tells a) → Leaves m a store c mid (IsLeftAt g (m.around a) (map_of store)) →
+      TakesSafely m (IsLeftAt g (m.around a) (map_of store)) a c → m.tells c → are_below (length g.nodes) requested ≡ true →
+      HasRemembered m w (map_of store) a c
+  refused_remembers stands back leaves safe tells below =
+      has_remembered m w read below store a c rest stands (m.around c) (map_of mid) (leaves tells (rest (back tells))) ⊥
+      (λ k left covers first. safe k left first) (λ went. absurd went)
 
   pub build_refused : (m.tells c → m.tells a) → Leaves m a store c mid (IsLeftAt g (m.around a) (map_of store)) → (answer : BuildEnd) →
       answer.is_ended ≡ true → BuildRuns m w (map_of store) a c (map_of mid) answer

@@ -1,5 +1,5 @@
 -- The record of a rule that is decided is that of what its dependencies hold: so the rule starts safely.
-use Rattle.std.proofs.Common.{◌≡◌, ◌∙◌, ◌<◌, ℕ, List, Contains, Some, None, map, map-id, inl, length, ap, refl, sym, subst}
+use Rattle.std.proofs.Common.{◌≡◌, ◌∙◌, ◌<◌, ℕ, true, List, Contains, Some, None, map, map-id, inl, length, ap, refl, sym, subst}
 use Rattle.std.proofs.lemmas.Simd.{map-map}
 use Rattle.scons_base.specs.declared.ids.RuleId.{RuleId}
 use Rattle.deciders.specs.Records as kept
@@ -9,7 +9,7 @@ use Rattle.world_api.specs.Looks.{Looks}
 use Rattle.world_api.specs.Meaning.{Meaning, Told}
 use Rattle.world_api.specs.Reads.{stamp_of}
 use Rattle.task_plan.specs.declared.want.Want.TheVariants as want
-use Rattle.build_model.specs.Rules.{Path, Bytes, Content, Digest, Rule, Record, Dependency, Setting}
+use Rattle.build_model.specs.Rules.{Path, Bytes, Content, Digest, Rule, Record, Dependency, Setting, Among}
 use Rattle.build_model.specs.Contents.{in_tree}
 use Rattle.build_model.specs.Moments.{Job as Given}
 use Rattle.build_model.specs.Records.{dependency_of, digest_by, digested, named_digest}
@@ -17,22 +17,24 @@ use Rattle.build_model.specs.Stale.{name_of}
 use Rattle.build_model.specs.Steps.{Step, IsReady, present_dependencies, present_record, settled}
 use Rattle.build_model.proofs.Lists.{same_map}
 use Rattle.build_model.proofs.Runs.{settled_done}
+use Rattle.build_means.specs.Builds.{jobs_at_once}
 use Rattle.build_means.specs.Records.{dependency_in, record_in}
 use Rattle.run_means.specs.Ways.{IsWay}
 use Rattle.run_means.proofs.Lists.{contains_among}
-use Rattle.turn_means.specs.Laws.{IsChosen, IsWeighed}
+use Rattle.turn_means.specs.Laws.{IsChosen, IsWeighed, is_due_now}
 use Rattle.turn_means.specs.Recording.{build_at}
 use Rattle.turn_means.specs.Standing.{Outset, IsOutset, setting_at, Standing, Knows}
-use Rattle.turn_means.proofs.Deciding.{decided, makes, record_is}
+use Rattle.turn_means.proofs.Deciding.{decided, makes, may_begin, record_is}
 use Rattle.turn_means.proofs.Running.{ready_still}
 use Rattle.build_run.specs.Along.{IsAlong, IsDue, standing_of}
 use Rattle.build_run.specs.Outs.{ShareNone}
-use Rattle.build_run.specs.Safe.{IsOfLaw, IsOverFiles, SiteGoesSafely, StartsSafely, TurnsSafelyAs}
+use Rattle.build_run.specs.Safe.{DecidesSafely, IsOfLaw, IsOverFiles, SiteGoesSafely, TurnsSafelyAs}
+use Rattle.build_run.specs.Watches.{Watch, Allows, Covers, MayStart}
 use Rattle.build_run.specs.Sites.{most_jobs}
 use Rattle.build_run.specs.declared.site.Site.{Site}
 use Rattle.build_run.proofs.Alongs.{is_reliable}
 use Rattle.build_run.proofs.Settling.{readable_settled}
-use Rattle.build_run.proofs.Stopping.{site_safely_on}
+use Rattle.build_run.proofs.Stopping.{site_then}
 
 -- where digests are made by the same functions a content has one digest
 same_digest : (s t : Setting) (hash : ℕ) (c : Content) → s.digest ≡ t.digest → hash ≡ t.hash →
@@ -103,17 +105,53 @@ module _ {W O E : Type 0} (m : Meaning W) where
       over_weighed o outset along.on.jobs (standing_of m site) along.on.past along.on.at.way
       (along.on.at.knows due.weighed.goes_on) rule due.model rec due.weighed t of
 
+  -- and where it is due it may be started with it
+  pub due_allows : (o : Outset) → IsOutset o → (site : Site W O E) → IsAlong m o site → (rule : RuleId) (rec : Rec) (due : IsDue m o site rule rec) →
+      is_due_now (standing_of m site) due.model rec ≡ true → length (m.around site.world.now).running < jobs_at_once o.wanted.jobs →
+      (k : Watch) → Covers k o → Allows k (m.around site.world.now) rec
+  due_allows o outset site along rule rec due is_due room k covers = record {
+    goes = λ minds made. (covers due.model starts minds (among made)).0;
+    puts = λ minds made. (covers due.model starts minds (among made)).1 ∙ ap Some (sym is);
+  }
+    where
+      s : Standing
+      s = standing_of m site
+
+      known : Knows o s along.on.past
+      known = along.on.at.knows due.weighed.goes_on
+
+      is : record_in rec ≡ present_record (setting_at o) (build_at o s.around) due.model
+      is = record_is o outset along.on.jobs s along.on.past along.on.at.way known rule due.model rec due.weighed
+
+      starts : MayStart o due.model
+      starts = record {
+        jobs = along.on.jobs;
+        around = s.around;
+        past = along.on.past;
+        way = along.on.at.way;
+        may = may_begin o outset along.on.jobs s along.on.past along.on.at.way known rule due.model rec due.weighed is_due room;
+      }
+
+      among : Contains rec.targets k.path → Among k.path due.model.targets
+      among made = contains_among due.model.targets
+          (subst (λ (paths : List Path). Contains paths k.path) (ap (λ (x : Record). x.targets) is) made)
+
   -- The record of a rule was found by looks.
   pub found_behind : (old mid new : Site W O E) (rule : RuleId) (rec : Rec) → Looks m old.world.now mid.world.now →
-      Told m mid.world.now new.world.now → SiteGoesSafely m old mid → StartsSafely m mid new rec →
+      Told m mid.world.now new.world.now → SiteGoesSafely m old mid → DecidesSafely m mid new rule rec →
       (m.tells mid.world.now → (o : Outset) → IsOutset o → IsAlong m o old → IsChosen old.run.now.plan rule →
       length old.run.now.tickets < most_jobs old.options → IsAlong m o mid × IsDue m o mid rule rec) →
       TurnsSafelyAs m old new (want.Decide rule)
-  found_behind old mid new rule rec looks told first then found may s along safe =
-      site_safely_on m old mid new told first
-      (λ t is. then t is (λ tells sure.
+  found_behind old mid new rule rec looks told first then found may k along safe =
+      site_then m k old mid new told (first k safe) (λ now. then k now (λ tells sure.
       let some = along (looks.told.told tells) (looks.told.sure tells sure) in
       let wanted = may (is_reliable m some.o old some.along) in
       let due = found tells some.o some.outset some.along wanted.0 wanted.1 in
-      over_due some.o some.outset mid due.0 rule rec due.1 t (is.world tells sure).of))
-      s safe
+      record {
+        over = over_due some.o some.outset mid due.0 rule rec due.1 k.setting (now.world tells sure).of;
+        o = some.o;
+        outset = some.outset;
+        covers = some.covers;
+        along = due.0;
+        due = due.1;
+      }))

@@ -23,13 +23,17 @@ mod Finishing
 pub mod Noting
 mod Skipping
 mod Builds
+mod Watching
 mod Safely
 mod Stopping
 mod Turning
 mod Ended
 mod Begun
 pub mod Deciding
+mod Allowing
 mod Stopped
+mod Starts
+mod Remembering
 pub mod Reasons
 mod Explaining
 mod Valid

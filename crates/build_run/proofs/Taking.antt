@@ -154,6 +154,13 @@ taken_so_far recs n rec a b may within at p gone before = λ k one below inside 
 pub all_taken : (recs : List Rec) (n : ℕ) (around : Around) → length recs ≡ n → AreTakenSoFar recs n around → (path : List ℕ) → IsTargetOf recs path → around.tree path ≡ None
 all_taken recs n around end so_far path is = let among = is.1 in so_far among.0 is.0 (omega (arith, among.1, end)) among.1 among.2 path is.2
 
+-- what is taken was left there before the look
+pub target_left : {W : Type 0} (m : Meaning W) (a b : W) (g : RuleGraph) (map : Map) (left : List Rec) → m.tells b → (m.around a).running ≡ [] → Looks m a b →
+    AreLeftovers g (m.around b) (IsCopyIn map) left → (path : List ℕ) → IsTargetOf left path → IsLeftAt g (m.around a) map path
+target_left m a b g map left t rest looks found path is =
+    let was = found.each is.0 is.1 in
+    (is.0, was.0, left_before g (m.around a) (m.around b) is.0 rest (looks.around t) was.1, is.2)
+
 -- leftover copies, as they were before and behind the look for them
 pub takes_left : {W : Type 0} (m : Meaning W) (a b c : W) (g : RuleGraph) (map : Map) (left : List Rec) → (m.tells c → m.tells b) → Looks m a b → (m.tells b → (m.around b).running ≡ [] → AreLeftovers g (m.around b) (IsCopyIn map) left)
     → Takes m b c (IsTargetOf left) → Takes m a c (IsLeftAt g (m.around a) map)
@@ -163,9 +170,7 @@ takes_left m a b c g map left told looks found p = λ t rest path.
     elim (p t still path) [
       | inl same ↦ inl (same ∙ asks.files path (none_runs (m.around a).running path rest))
       | inr gone ↦
-          let is = gone.0 in
-          let was = (found (told t) still).each is.0 is.1 in
-          inr ((is.0, was.0, left_before g (m.around a) (m.around b) is.0 rest asks was.1, is.2), gone.1)
+          inr (target_left m a b g map left (told t) rest looks (found (told t) still) path gone.0, gone.1)
     ]
 
 pub left_taken : {W : Type 0} (m : Meaning W) (a b : W) (c : Around) (g : RuleGraph) (map : Map) (left : List Rec) → m.tells b → (m.around a).running ≡ [] → Looks m a b → AreLeftovers g (m.around b) (IsCopyIn map) left

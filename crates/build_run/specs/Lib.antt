@@ -12,6 +12,7 @@ pub mod StartTexts
 pub mod Output
 pub mod Outsets
 pub mod Reasons
+pub mod Remembering
 pub mod Safe
 pub mod Shown
 pub mod Sites
@@ -19,6 +20,7 @@ pub mod Skips
 pub mod Takes
 pub mod Truth
 pub mod Withdrawals
+pub mod Watches
 pub mod Whys
 pub mod Endings
 pub mod Unrecorded

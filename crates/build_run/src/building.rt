@@ -18,10 +18,11 @@ ghost use Rattle.build_run.specs.Output.{BuildPrints, MakesPrinted};
 ghost use Rattle.build_run.specs.Outsets.{wanted_of, FinishesWell, LeavesCopies, MakesAll, RunsOver, SetsOut, SetsOutBehind, StaysKept, SucceedsOver};
 ghost use Rattle.build_run.specs.Noted.{KeepsNoted};
 ghost use Rattle.build_run.specs.Reasons.{EndsForReason, KeepsReason, SiteKeepsReason, StaysReasoned};
-ghost use Rattle.build_run.specs.Safe.{BuildsSafely, GoesSafely, MakesSafely};
+ghost use Rattle.build_run.specs.Remembering.{Remembers};
+ghost use Rattle.build_run.specs.Safe.{BuildsSafely, MakesSafely, TakesSafely};
 ghost use Rattle.build_run.specs.Sites.{IsSame, SiteAccounts, most_jobs};
 ghost use Rattle.build_run.specs.Skips.{AreAtFault, AreHeldPairs, AreNamed, BuildSkips, HasHeldPairs, HoldsNeedy, MakesSkipping, TakesFaulty};
-ghost use Rattle.build_run.specs.Takes.{HasTakeCause};
+ghost use Rattle.build_run.specs.Takes.{HasTakeCause, IsLeftAt};
 
 use crate::account::Account;
 use crate::end::BuildEnd;
@@ -90,6 +91,7 @@ pub fn build<W: World, O: Sink, E: Sink>(
     ensures skips { BuildSkips W.meaning graph.old requested.now options.now store.old world.old store.new world.new result }
     ensures counts { BuildCounts W.meaning graph.old requested.now options.now store.old world.old store.new world.new result }
     ensures safe { BuildsSafely W.meaning (wanted_of graph.old requested.now options.now) world.old world.new }
+    ensures remembers { Remembers W.meaning (wanted_of graph.old requested.now options.now) (map_of store.old) world.old world.new }
     ensures ends { EndsForReason options.now result }
     ensures tells { BuildTells E.meaning err.old err.new result }
     ensures prints { BuildPrints W.meaning O.meaning (wanted_of graph.old requested.now options.now) (map_of store.old) options.now world.old out.old
@@ -140,7 +142,7 @@ fn set_out<W: World>(
     ensures held { IfOk result (λ run. run.held ≡ []) }
     ensures sets { IfOk result (SetsOutBehind W.meaning graph.old requested.now hash world.old store.old graph.new world.new store.new) }
     ensures rest { OnErr result (LeavesCopies W.meaning graph.old world.old store.old world.new store.new) }
-    ensures safe { GoesSafely W.meaning world.old world.new }
+    ensures safe { TakesSafely W.meaning (IsLeftAt graph.old (W.meaning.around world.old) (map_of store.old)) world.old world.new }
 {
     take_leftovers(alloc, graph, store, world)?;
     begin(alloc, hash, graph, requested, world)

@@ -8,7 +8,7 @@ ghost use Rattle.build_files.specs.Causes.{HasLookCause};
 ghost use Rattle.build_run.specs.Outs.{IsTicketFor, KeepsSome};
 ghost use Rattle.build_run.specs.Noted.{SiteKeepsNoted};
 ghost use Rattle.build_run.specs.Reasons.{EndsLast, SiteKeepsReason};
-ghost use Rattle.build_run.specs.Safe.{GoesSafely, SiteGoesSafely};
+ghost use Rattle.build_run.specs.Safe.{GoesSafely, SiteTakesSafely};
 ghost use Rattle.build_run.specs.Sites.{IsSound, IsReady, IsCleared, KeepsRecordsBut, SiteEnds, SiteGoes};
 ghost use Rattle.build_run.specs.Takes.{Takes};
 ghost use Rattle.build_run.specs.Withdrawals.{AreWithdrawn};
@@ -42,7 +42,7 @@ impl<W: World, O: Sink, E: Sink> Site<'_, '_, W, O, E> {
         ensures well { OnOk result (self.new.account.now ≡ self.old.account.now) }
         ensures tickets { KeepsTickets self.old.store.now self.new.store.now }
         ensures refused { RefusesSo W.meaning job.now.targets self.old self.new result }
-        ensures safe { SiteGoesSafely W.meaning self.old self.new }
+        ensures safe { SiteTakesSafely W.meaning job.now.targets self.old self.new }
         ensures reason { SiteKeepsReason self.old self.new }
         ensures texts { SameTold self.old.account.now self.new.account.now }
         ensures last { EndsLast result }
@@ -73,7 +73,7 @@ impl<W: World, O: Sink, E: Sink> Site<'_, '_, W, O, E> {
         ensures well { OnOk result (self.new.account.now ≡ self.old.account.now) }
         ensures tickets { KeepsTickets self.old.store.now self.new.store.now }
         ensures shut { OnErr result (self.new.account.now.is_store_shut ≡ true) }
-        ensures safe { SiteGoesSafely W.meaning self.old self.new }
+        ensures safe { SiteTakesSafely W.meaning job.now.targets self.old self.new }
         ensures reason { SiteKeepsReason self.old self.new }
         ensures texts { SameTold self.old.account.now self.new.account.now }
         ensures last { EndsLast result }

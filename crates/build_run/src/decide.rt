@@ -10,7 +10,7 @@ ghost use Rattle.world_api.specs.Looks.{Looks};
 ghost use Rattle.build_run.specs.Output.{MakesPrinting, TurnsPrinting};
 ghost use Rattle.build_run.specs.Noted.{IsFaultOf, NotesDone, SiteKeepsNoted};
 ghost use Rattle.build_run.specs.Reasons.{EndsLast, SiteKeepsReason};
-ghost use Rattle.build_run.specs.Safe.{StartsSafely, TurnsSafelyAs};
+ghost use Rattle.build_run.specs.Safe.{DecidesSafely, TurnsSafelyAs};
 ghost use Rattle.build_run.specs.Shown.{ShowsMade};
 ghost use Rattle.build_run.specs.Sites.{IsSound, KeepsHeld, SiteEnds, SitePasses};
 
@@ -68,7 +68,7 @@ impl<W: World, O: Sink, E: Sink> Site<'_, '_, W, O, E> {
         ensures kept { KeepsHeld self.old self.new }
         ensures along { MakesAlong W.meaning self.old self.new rule now result }
         ensures printing { MakesPrinting W.meaning O.meaning self.old self.new rule now result }
-        ensures safe { StartsSafely W.meaning self.old self.new now }
+        ensures safe { DecidesSafely W.meaning self.old self.new rule now }
         ensures reason { SiteKeepsReason self.old self.new }
         ensures texts { SiteKeepsTold E.meaning self.old self.new }
         ensures last { EndsLast result }

@@ -14,7 +14,7 @@ ghost use Rattle.build_run.specs.Output.{PrintsLast};
 ghost use Rattle.build_run.specs.Outs.{IsTicketFor, KeepsSome, ShareNone};
 ghost use Rattle.build_run.specs.Noted.{KeepsNoted, SiteKeepsNoted};
 ghost use Rattle.build_run.specs.Reasons.{EndsLast, SiteKeepsReason, StaysReasoned};
-ghost use Rattle.build_run.specs.Safe.{GoesSafely, SiteGoesSafely};
+ghost use Rattle.build_run.specs.Safe.{GoesSafely, SiteTakesSafely};
 ghost use Rattle.build_run.specs.Sites.{IsReady, IsSound, IsSoundWith, KeepsRecordsBut, SiteEnds, SitePasses, holds_after};
 ghost use Rattle.build_run.specs.declared.tickets.Hold.{Hold};
 ghost use Rattle.build_run.specs.Withdrawals.{AreWithdrawn, HasNone};
@@ -50,7 +50,7 @@ impl<W: World, O: Sink, E: Sink> Site<'_, '_, W, O, E> {
         ensures well { OnOk result (IsWellStill W.meaning self.old self.new) }
         ensures outs { KeepsTickets self.old.store.now self.new.store.now }
         ensures refused { RefusesSo W.meaning job.targets self.old self.new result }
-        ensures safe { SiteGoesSafely W.meaning self.old self.new }
+        ensures safe { SiteTakesSafely W.meaning job.targets self.old self.new }
         ensures reason { SiteKeepsReason self.old self.new }
         ensures texts { SiteKeepsTold E.meaning self.old self.new }
         ensures last { EndsLast result }

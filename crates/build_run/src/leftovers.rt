@@ -4,7 +4,7 @@ ghost use Rattle.build_files.specs.Causes.{HasLookCause};
 ghost use Rattle.build_run.specs.Goings.{ClearsAt, Goes, Stays, AreUnused};
 ghost use Rattle.build_run.specs.Outs.{IsTicketFor};
 ghost use Rattle.build_run.specs.Outsets.{Leaves, LeavesCopies};
-ghost use Rattle.build_run.specs.Safe.{GoesSafely};
+ghost use Rattle.build_run.specs.Safe.{GoesSafely, TakesSafely};
 ghost use Rattle.build_run.specs.Takes.{HasTakeCause, AreTaken, Takes, IsLeftAt, IsTargetOf};
 ghost use Rattle.build_run.specs.Withdrawals.{AreWithdrawn};
 ghost use Rattle.sign_store.specs.Stores.{IsKept, is_live, map_of};
@@ -38,7 +38,7 @@ pub(crate) fn take_leftovers<W: World>(
     ensures gone { AreTaken W.meaning world.new (IsLeftAt graph.now (W.meaning.around world.old) (map_of store.old)) result }
     ensures only { Takes W.meaning world.old world.new (IsLeftAt graph.now (W.meaning.around world.old) (map_of store.old)) }
     ensures rest { LeavesCopies W.meaning graph.now world.old store.old world.new store.new }
-    ensures safe { GoesSafely W.meaning world.old world.new }
+    ensures safe { TakesSafely W.meaning (IsLeftAt graph.now (W.meaning.around world.old) (map_of store.old)) world.old world.new }
 {
     let left = leftover_copies(alloc, world, graph, store)?;
     take_each(alloc, store, world, left.as_slice())
@@ -61,7 +61,7 @@ fn take_each<W: World>(
     ensures gone { AreTaken W.meaning world.new (IsTargetOf left.now) result }
     ensures only { Takes W.meaning world.old world.new (IsTargetOf left.now) }
     ensures rest { Leaves W.meaning world.old store.old world.new store.new (IsTargetOf left.now) }
-    ensures safe { GoesSafely W.meaning world.old world.new }
+    ensures safe { TakesSafely W.meaning (IsTargetOf left.now) world.old world.new }
 {
     for rec in left {
         take_away(alloc, store, world, rec.copy()?)?;
@@ -86,7 +86,7 @@ fn take_away<W: World>(
     ensures gone { AreTaken W.meaning world.new (Contains rec.targets) result }
     ensures only { Takes W.meaning world.old world.new (Contains rec.targets) }
     ensures rest { Leaves W.meaning world.old store.old world.new store.new (Contains rec.targets) }
-    ensures safe { GoesSafely W.meaning world.old world.new }
+    ensures safe { TakesSafely W.meaning (Contains rec.targets) world.old world.new }
 {
     let targets = rec.targets.copy()?;
     let ticket = prepare(alloc, store, rec)?;
@@ -112,7 +112,7 @@ fn withdraw<W: World>(
     ensures withdrawn { OnOk result (AreWithdrawn W.meaning world.new store.new targets.now) }
     ensures around { W.meaning.tells world.new → W.meaning.around world.new ≡ W.meaning.around world.old }
     ensures map { (path : List ℕ) → (Contains targets.now path → ⊥) → map_of store.new path ≡ map_of store.old path }
-    ensures safe { GoesSafely W.meaning world.old world.new }
+    ensures safe { TakesSafely W.meaning (Contains targets.now) world.old world.new }
 {
     let none: &[Busy] = &[];
     match store.withdraw(world, none, ticket) {

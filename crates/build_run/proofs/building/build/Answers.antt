@@ -1,13 +1,13 @@
-use Rattle.std.proofs.Common.{◌∙◌, ap}
+use Rattle.std.proofs.Common.{◌∙◌, ap, refl}
 use Rattle.build_means.specs.Rules.{IsReading}
 use Rattle.build_run.specs.Causes.{outside}
 use Rattle.build_run.specs.Ledgers.{ledger_of, ledger_of_end, blank, with_end}
 use Rattle.build_run.specs.Outsets.{wanted_of}
-use Rattle.build_run.proofs.Builds.{build_printed, build_ran, build_refused, build_silent, build_skipped, build_succeeded, has_outset, is_blank, refused_skips, refused_untold}
+use Rattle.build_run.proofs.Builds.{build_printed, build_ran, build_refused, build_remembers, build_silent, build_skipped, build_succeeded, has_outset, is_blank, refused_remembers, refused_skips, refused_untold}
 use Rattle.build_run.proofs.Causing.{account_as, at_first, caused, ended, same_counts}
 use Rattle.build_run.proofs.Goings.{passes_on}
 use Rattle.build_run.proofs.Safely.{safe_on}
-use Rattle.build_run.proofs.Stopped.{builds_safely}
+use Rattle.build_run.proofs.Stopped.{builds_safely, never_covers, unwatched}
 use Rattle.build_run.proofs.Taking.{take_accounted}
 use Rattle.build_run.proofs.Reasons.{answers_so, not_ended}
 use Rattle.build_run.proofs.Reporting.{begins_told, build_tells}
@@ -128,19 +128,40 @@ returns-in-Ok-clause-safe g c =
     builds_safely m (wanted_of c.args.graph.now c.args.requested.now c.args.options.now) c.args.world.now c.make_all-skipped.new.world
     c.requires.idle
     (λ s below safe.
-    safe_on m s c.args.world.now mid c.make_all-skipped.new.world c.make_all-skipped.ensures.passes.told (c.set_out.ensures.safe s safe)
-    (c.make_all-skipped.ensures.safe s (λ tells sure.
+    safe_on m (unwatched s) c.args.world.now mid c.make_all-skipped.new.world c.make_all-skipped.ensures.passes.told
+    (c.set_out.ensures.safe (unwatched s) (λ t left. refl) safe)
+    (c.make_all-skipped.ensures.safe (unwatched s) (λ tells sure.
     has_outset m c.args.graph.now c.args.requested.now c.args.options.now read c.args.world.now mid
     c.make_all-skipped.new.world c.args.store.now c.set_out.new.store c.requires.idle c.set_out.new.graph c.in-Ok.run' c.new-account.result
     c.set_out.ensures.goes.passes.told.told c.in-Ok.ensures.cause
     c.in-Ok.ensures.sets (is_blank c.new-account.result c.new-account.ensures.ledger c.new-account.ensures.ended)
     (g.met.W.Disk.reads_as c.set_out.new.world) c.in-Ok.ensures.kept c.make_all-skipped.ensures.passes.told.sure c.set_out.ensures.safe
-    c.runs_are_right.ensures tells below)))
+    c.runs_are_right.ensures tells below (unwatched s) (never_covers s _))))
 
 pub returns-in-Err-clause-safe : goal.returns-in-Err-clause-safe
 returns-in-Err-clause-safe g c =
     builds_safely g.W.Disk.meaning (wanted_of c.args.graph.now c.args.requested.now c.args.options.now) c.args.world.now
-    c.set_out.new.world c.requires.idle (λ s below safe. c.set_out.ensures.safe s safe)
+    c.set_out.new.world c.requires.idle (λ s below safe. c.set_out.ensures.safe (unwatched s) (λ t left. refl) safe)
+
+pub returns-in-Ok-clause-remembers : goal.returns-in-Ok-clause-remembers
+returns-in-Ok-clause-remembers g c = λ tells sure below.
+    let m = g.W.Disk.meaning in
+    let read : IsReading c.args.graph.now =
+    record { apart = c.laws.ensures.apart; single = c.laws.ensures.single; named = c.laws.ensures.named } in
+    build_remembers m c.args.graph.now c.args.requested.now c.args.options.now read c.args.world.now c.set_out.new.world
+    c.make_all-skipped.new.world c.args.store.now c.set_out.new.store c.requires.idle c.set_out.new.graph c.in-Ok.run' c.new-account.result
+    c.set_out.ensures.goes.passes.told.told c.in-Ok.ensures.cause
+    c.in-Ok.ensures.sets (is_blank c.new-account.result c.new-account.ensures.ledger c.new-account.ensures.ended)
+    (g.met.W.Disk.reads_as c.set_out.new.world) c.in-Ok.ensures.kept c.make_all-skipped.ensures.passes.told.sure c.set_out.ensures.safe
+    c.runs_are_right.ensures c.requires.kept c.make_all-skipped.ensures.passes.told c.make_all-skipped.ensures.safe tells sure below
+
+pub returns-in-Err-clause-remembers : goal.returns-in-Err-clause-remembers
+returns-in-Err-clause-remembers g c = λ tells sure below.
+    let read : IsReading c.args.graph.now =
+    record { apart = c.laws.ensures.apart; single = c.laws.ensures.single; named = c.laws.ensures.named } in
+    refused_remembers g.W.Disk.meaning c.args.graph.now c.args.requested.now c.args.options.now read c.args.world.now c.set_out.new.world
+    c.set_out.new.world c.args.store.now c.set_out.new.store c.requires.idle c.requires.kept c.set_out.ensures.goes.passes.told.told
+    c.in-Err.ensures.rest c.set_out.ensures.safe tells below
 
 pub returns-in-Ok-clause-ends : goal.returns-in-Ok-clause-ends
 returns-in-Ok-clause-ends g c =

@@ -72,14 +72,14 @@ returns-clause-skips g c = λ tells sure o ready.
     tells sure
 
 pub returns-clause-safe : goal.returns-clause-safe
-returns-clause-safe g c = λ s outset safe.
+returns-clause-safe g c = λ k outset safe.
     let m = g.W.Disk.meaning in
     let mid = c.go_on.new.self in
     let lent = c.close.ensures.same.world ∙ c.go_on.ensures.passes.same.world in
-    let on = c.go_on.ensures.safe s
-    (λ tells sure. along_first m _ c.requires.held c.requires.none (outset tells sure))
-    (first_safe m s _ c.requires.held c.requires.none safe) in
-    safe_given m s c.close.new.self c.args.world.now mid.world.now _ (search rules) c.close.ensures.world
+    let on = c.go_on.ensures.safe k
+    (λ tells sure. along_first m k _ c.requires.held c.requires.none (outset tells sure))
+    (first_safe m k _ c.requires.held c.requires.none safe) in
+    safe_given m k c.close.new.self c.args.world.now mid.world.now _ (search rules) c.close.ensures.world
     (record { moments = on.moments; now = on.now.world })
 
 pub returns-clause-stored : goal.returns-clause-stored

@@ -1,4 +1,4 @@
-use Rattle.build_run.proofs.Safely.{safe_looked, safely_on}
+use Rattle.build_run.proofs.Safely.{safe_looked, takes_behind}
 use Rattle.std.proofs.Common.{refl}
 use Rattle.build_run.proofs.Builds.{refused_with, sets_behind}
 use Rattle.build_run.proofs.Goings.{goes_on}
@@ -57,5 +57,5 @@ returns-clause-rest g c =
 pub returns-clause-safe : goal.returns-clause-safe
 returns-clause-safe g c =
     let m = g.W.Disk.meaning in
-    safely_on m _ _ _ c.begin.ensures.stays.goes.passes.told c.take_leftovers.ensures.safe
-    (λ s safe. safe_looked m s g.met.W.Disk.only_now c.take_leftovers.new.world c.begin.new.world c.begin.ensures.looks safe)
+    takes_behind m _ _ _ _ c.begin.ensures.stays.goes.passes.told c.take_leftovers.ensures.safe
+    (λ k safe. safe_looked m k g.met.W.Disk.only_now c.take_leftovers.new.world c.begin.new.world c.begin.ensures.looks safe)

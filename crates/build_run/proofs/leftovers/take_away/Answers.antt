@@ -1,4 +1,5 @@
-use Rattle.build_run.proofs.Safely.{safely_here, safely_on}
+use Rattle.build_run.proofs.Safely.{takes_behind, takes_here}
+use Rattle.build_run.specs.Safe.{TakesSafely}
 use Rattle.std.proofs.Common.{◌∙◌, List, ℕ, Contains, refl, sym, subst, ap}
 use Rattle.sign_store.proofs.Keeping.{kept_as}
 use Rattle.sign_store.specs.Tables.{Map}
@@ -104,11 +105,19 @@ returns-clause-rest g c =
     stays.passes.told.told first last
 
 pub returns-in_err-targets-clause-safe : goal.returns-in_err-targets-clause-safe
-returns-in_err-targets-clause-safe g c = safely_here g.W.Disk.meaning g.met.W.Disk.only_now c.args.world.now
+returns-in_err-targets-clause-safe g c = takes_here g.W.Disk.meaning (Contains c.args.rec.targets) g.met.W.Disk.only_now c.args.world.now
 
 pub returns-in_err-ticket-clause-safe : goal.returns-in_err-ticket-clause-safe
-returns-in_err-ticket-clause-safe g c = safely_here g.W.Disk.meaning g.met.W.Disk.only_now c.args.world.now
+returns-in_err-ticket-clause-safe g c = takes_here g.W.Disk.meaning (Contains c.args.rec.targets) g.met.W.Disk.only_now c.args.world.now
 
 pub returns-clause-safe : goal.returns-clause-safe
 returns-clause-safe g c =
-    safely_on g.W.Disk.meaning _ _ _ c.remove_unrecorded.ensures.stays.goes.passes.told c.withdraw.ensures.safe c.remove_unrecorded.ensures.safe
+    let m = g.W.Disk.meaning in
+    takes_behind m (Contains c.args.rec.targets) _ _ _ c.remove_unrecorded.ensures.stays.goes.passes.told
+    (subst (λ (paths : List (List ℕ)). TakesSafely m (Contains paths) c.args.world.now c.withdraw.new.world) c.in_ok-targets.ensures c.withdraw.ensures.safe)
+    c.remove_unrecorded.ensures.safe
+
+pub returns-in_err-withdraw-clause-safe : goal.returns-in_err-withdraw-clause-safe
+returns-in_err-withdraw-clause-safe g c =
+    subst (λ (paths : List (List ℕ)). TakesSafely g.W.Disk.meaning (Contains paths) c.args.world.now c.withdraw.new.world) c.in_ok-targets.ensures
+    c.withdraw.ensures.safe

@@ -1,4 +1,4 @@
-use Rattle.build_run.proofs.Safely.{safely_here, safely_on}
+use Rattle.build_run.proofs.Safely.{takes_here, takes_joined}
 use Rattle.std.proofs.Common.{rules, ◌∙◌, ◌<◌, length, Contains, sym, subst, arith}
 use Rattle.deciders.specs.declared.recorded.Rec.{Rec}
 use Rattle.build_run.specs.Takes.{IsTargetOf}
@@ -21,7 +21,9 @@ loop-rec-preserved g c =
       same = c.in_ok-take_away.ensures.cause ∙ before.same;
       live = c.in_ok-take_away.ensures.live;
       kept = c.in_ok-take_away.ensures.kept;
-      safe = safely_on m _ _ _ goes.passes.told before.safe c.take_away.ensures.safe;
+      safe = takes_joined m (IsTargetOf c.args.left.now) _ _ _ _ before.goes.passes.told goes.passes.told
+          (λ t path among. (c.rec-item.result, there, subst (λ (rec : Rec). Contains rec.targets path) c.in_ok-copy.ensures among))
+          before.safe c.take_away.ensures.safe;
       gone = λ t.
           let told = goes.passes.told.told t in
           let rest = before.goes.runs told ∙ c.requires.idle (before.goes.passes.told.told told) in
@@ -77,10 +79,14 @@ loop-rec-init g c = record {
   kept = search rules;
   gone = search rules;
   only = search rules;
-  safe = safely_here g.W.Disk.meaning g.met.W.Disk.only_now c.args.world.now;
+  safe = takes_here g.W.Disk.meaning (IsTargetOf c.args.left.now) g.met.W.Disk.only_now c.args.world.now;
   rest = search rules;
 }
 
 pub returns-in_err-take_away-clause-safe : goal.returns-in_err-take_away-clause-safe
 returns-in_err-take_away-clause-safe g c =
-    safely_on g.W.Disk.meaning _ _ _ c.take_away.ensures.goes.passes.told c.loop-rec.invariant.safe c.take_away.ensures.safe
+    let before = c.loop-rec.invariant in
+    let there : Contains c.args.left.now c.rec-item.result = (c.loop-rec.rec-index, omega (arith, c.loop-rec-test.true), sym c.rec-item.is) in
+    takes_joined g.W.Disk.meaning (IsTargetOf c.args.left.now) _ _ _ _ before.goes.passes.told c.take_away.ensures.goes.passes.told
+    (λ t path among. (c.rec-item.result, there, subst (λ (rec : Rec). Contains rec.targets path) c.in_ok-copy.ensures among))
+    before.safe c.take_away.ensures.safe

@@ -1,11 +1,12 @@
-use Rattle.build_run.proofs.Safely.{safe_looked, safely_on}
+use Rattle.build_run.proofs.Safely.{safe_looked, takes_joined}
 use Rattle.std.proofs.Common.{◌∙◌, List, sym, subst}
 use Rattle.sign_store.specs.Copies.{IsCopyIn}
 use Rattle.sign_store.specs.Stores.{map_of}
 use Rattle.deciders.specs.declared.recorded.Rec.{Rec}
 use Rattle.build_files.specs.Leftovers.{AreLeftovers}
+use Rattle.build_run.specs.Takes.{IsLeftAt}
 use Rattle.build_run.proofs.Leaving.{leaves_left}
-use Rattle.build_run.proofs.Taking.{kept_over, take_end, take_exit, take_after, takes_looked, takes_left, left_taken, done_gone}
+use Rattle.build_run.proofs.Taking.{kept_over, take_end, take_exit, take_after, takes_looked, takes_left, left_taken, done_gone, target_left}
 use Rattle.build_run.proofs.leftovers.take_leftovers.Goals as goal
 
 pub returns-in_err-left-clause-cause : goal.returns-in_err-left-clause-cause
@@ -50,12 +51,19 @@ returns-clause-rest g c =
     c.take_each.ensures.rest
 
 pub returns-in_err-left-clause-safe : goal.returns-in_err-left-clause-safe
-returns-in_err-left-clause-safe g c = λ s safe.
-    safe_looked g.W.Disk.meaning s g.met.W.Disk.only_now c.args.world.now c.leftover_copies.new.world c.leftover_copies.ensures.looks safe
+returns-in_err-left-clause-safe g c = λ k goes safe.
+    safe_looked g.W.Disk.meaning k g.met.W.Disk.only_now c.args.world.now c.leftover_copies.new.world c.leftover_copies.ensures.looks safe
 
 pub returns-clause-safe : goal.returns-clause-safe
 returns-clause-safe g c =
     let m = g.W.Disk.meaning in
-    safely_on m _ _ _ c.take_each.ensures.goes.passes.told
-    (λ s safe. safe_looked m s g.met.W.Disk.only_now c.args.world.now c.leftover_copies.new.world c.leftover_copies.ensures.looks safe)
+    let map = map_of c.args.store.now in
+    let looks = c.leftover_copies.ensures.looks in
+    takes_joined m (IsLeftAt c.args.graph.now (m.around c.args.world.now) map) _ _ _ _ looks.told c.take_each.ensures.goes.passes.told
+    (λ t.
+    let rest = c.requires.idle (looks.told.told t) in
+    target_left m c.args.world.now c.leftover_copies.new.world c.args.graph.now map c.as_slice.result.now t rest looks
+    (subst (λ (left : List Rec). AreLeftovers c.args.graph.now (m.around c.leftover_copies.new.world) (IsCopyIn map) left) (sym c.as_slice.ensures)
+    (c.in_ok-left.ensures.left (t, (looks.around t).running ∙ rest))))
+    (λ k goes safe. safe_looked m k g.met.W.Disk.only_now c.args.world.now c.leftover_copies.new.world looks safe)
     c.take_each.ensures.safe

@@ -1,5 +1,6 @@
 use Rattle.build_run.proofs.Safely.{safe_stored}
 use Rattle.build_run.proofs.Stopping.{unset_safe}
+use Rattle.build_run.proofs.Watching.{watched_unset}
 use Rattle.std.proofs.Common.{◌∙◌, ap, subst, ℕ, List, Contains}
 use Rattle.sign_store.specs.Stores.{map_of}
 use Rattle.sign_store.specs.Tables.{Map}
@@ -34,19 +35,23 @@ pub returns-in-Err-clause-map : goal.returns-in-Err-clause-map
 returns-in-Err-clause-map g c = λ path out. ap (λ (map : Map). map path) c.in-Err.ensures.same
 
 pub returns-in-Ok-clause-safe : goal.returns-in-Ok-clause-safe
-returns-in-Ok-clause-safe g c = λ s safe.
+returns-in-Ok-clause-safe g c = λ k goes safe.
     let m = g.W.Disk.meaning in
     let t = c.requires.ticket in
-    safe_stored m s g.met.W.Disk.only_now g.met.W.Disk.reads_as c.args.world.now c.withdraw.new.world c.args.store.now _ c.withdraw.ensures.told
+    safe_stored m k g.met.W.Disk.only_now g.met.W.Disk.reads_as c.args.world.now c.withdraw.new.world c.args.store.now _ c.withdraw.ensures.told
     c.withdraw.ensures.around c.requires.kept
     (c.withdraw.ensures.moments t.rec (out_alone c.args.store.now t.rec c.args.ticket.now t.out) c.requires.kept)
-    (λ tells sure was. unset_safe s (m.around c.args.world.now) t.rec.targets (map_of c.args.store.now) was) safe
+    (λ tells sure was. unset_safe k.setting (m.around c.args.world.now) t.rec.targets (map_of c.args.store.now) was)
+    (λ tells sure watched. watched_unset k (m.around c.args.world.now) t.rec.targets (map_of c.args.store.now)
+    (λ minds among. goes tells (subst (λ (paths : List (List ℕ)). Contains paths k.path) t.same among)) watched) safe
 
 pub returns-in-Err-clause-safe : goal.returns-in-Err-clause-safe
-returns-in-Err-clause-safe g c = λ s safe.
+returns-in-Err-clause-safe g c = λ k goes safe.
     let m = g.W.Disk.meaning in
     let t = c.requires.ticket in
-    safe_stored m s g.met.W.Disk.only_now g.met.W.Disk.reads_as c.args.world.now c.withdraw.new.world c.args.store.now _ c.withdraw.ensures.told
+    safe_stored m k g.met.W.Disk.only_now g.met.W.Disk.reads_as c.args.world.now c.withdraw.new.world c.args.store.now _ c.withdraw.ensures.told
     c.withdraw.ensures.around c.requires.kept
     (c.withdraw.ensures.moments t.rec (out_alone c.args.store.now t.rec c.args.ticket.now t.out) c.requires.kept)
-    (λ tells sure was. unset_safe s (m.around c.args.world.now) t.rec.targets (map_of c.args.store.now) was) safe
+    (λ tells sure was. unset_safe k.setting (m.around c.args.world.now) t.rec.targets (map_of c.args.store.now) was)
+    (λ tells sure watched. watched_unset k (m.around c.args.world.now) t.rec.targets (map_of c.args.store.now)
+    (λ minds among. goes tells (subst (λ (paths : List (List ℕ)). Contains paths k.path) t.same among)) watched) safe

@@ -1,5 +1,5 @@
 use Rattle.build_run.proofs.Outs.{unheld_still}
-use Rattle.build_run.proofs.Stopping.{same_tickets, site_called, site_looked, site_safely_on}
+use Rattle.build_run.proofs.Stopping.{same_tickets, site_called, site_looked, site_takes, takes_then, then_takes}
 use Rattle.std.proofs.Common.{ℕ, List, [], Contains, inl, refl, subst}
 use Rattle.build_run.specs.Goings.{ClearsAt}
 use Rattle.build_run.specs.Holds.{Busy, holds_in}
@@ -126,13 +126,16 @@ returns-clause-refused g c = held_err c.remove_all.result (withdrawn c.in_ok-wit
 
 pub returns-in_err-make_dirs-clause-safe : goal.returns-in_err-make_dirs-clause-safe
 returns-in_err-make_dirs-clause-safe g c =
-    site_looked g.W.Disk.meaning c.args.self.now _ c.make_dirs.ensures.stays.goes.passes.told c.make_dirs.ensures.safe c.make_dirs.ensures.clears
-    (same_tickets c.args.self.now.store.now) (λ busy h. h) refl (λ unshut. unshut)
+    let m = g.W.Disk.meaning in
+    site_takes m c.args.job.now.targets c.args.self.now _
+    (site_looked m c.args.self.now _ c.make_dirs.ensures.stays.goes.passes.told c.make_dirs.ensures.safe c.make_dirs.ensures.clears
+    (same_tickets c.args.self.now.store.now) (λ busy h. h) refl (λ unshut. unshut))
 
 pub returns-in_err-withdraw-clause-safe : goal.returns-in_err-withdraw-clause-safe
 returns-in_err-withdraw-clause-safe g c =
     let m = g.W.Disk.meaning in
-    site_safely_on m c.args.self.now _ _ c.withdraw.ensures.goes.goes.passes.told
+    then_takes m c.args.job.now.targets [] c.args.self.now _ _ c.make_dirs.ensures.stays.goes.passes.told c.withdraw.ensures.goes.goes.passes.told
+    c.make_dirs.ensures.clears
     (site_looked m c.args.self.now _ c.make_dirs.ensures.stays.goes.passes.told c.make_dirs.ensures.safe c.make_dirs.ensures.clears
     (same_tickets c.args.self.now.store.now) (λ busy h. h) refl (λ unshut. unshut))
     c.withdraw.ensures.safe
@@ -141,8 +144,9 @@ pub returns-clause-safe : goal.returns-clause-safe
 returns-clause-safe g c =
     let m = g.W.Disk.meaning in
     let told = c.remove_all.ensures.stays.goes.passes.told in
-    site_safely_on m c.args.self.now c.withdraw.new.self _ told
-    (site_safely_on m c.args.self.now _ _ c.withdraw.ensures.goes.goes.passes.told
+    takes_then m c.args.job.now.targets c.args.self.now c.withdraw.new.self _ told
+    (then_takes m c.args.job.now.targets [] c.args.self.now _ _ c.make_dirs.ensures.stays.goes.passes.told c.withdraw.ensures.goes.goes.passes.told
+    c.make_dirs.ensures.clears
     (site_looked m c.args.self.now _ c.make_dirs.ensures.stays.goes.passes.told c.make_dirs.ensures.safe c.make_dirs.ensures.clears
     (same_tickets c.args.self.now.store.now) (λ busy h. h) refl (λ unshut. unshut))
     c.withdraw.ensures.safe)

@@ -105,19 +105,19 @@ returns-in_ok-missing-in-Lacks-clause-along g c = λ tells sure o outset along w
     c.in_ok-now.ensures.presents c.in_ok-now.ensures.cause c.in-Lacks.node (cc c.in-Lacks.is) f.ends f.faulted f.goes f.reports.shut
 
 pub returns-in_err-now-clause-safe : goal.returns-in_err-now-clause-safe
-returns-in_err-now-clause-safe g c = λ wanted s along safe.
+returns-in_err-now-clause-safe g c = λ wanted k along safe.
     let p = c.present.ensures in
-    site_saw g.W.Disk.meaning g.met.W.Disk.only_now c.args.self.now _ p.looks refl p.held p.tickets refl s safe
+    site_saw g.W.Disk.meaning g.met.W.Disk.only_now c.args.self.now _ p.looks refl p.held p.tickets refl k safe
 
 pub returns-in_err-missing-in-Lacks-clause-safe : goal.returns-in_err-missing-in-Lacks-clause-safe
-returns-in_err-missing-in-Lacks-clause-safe g c = λ wanted s along safe.
+returns-in_err-missing-in-Lacks-clause-safe g c = λ wanted k along safe.
     let p = c.present.ensures in
-    site_saw g.W.Disk.meaning g.met.W.Disk.only_now c.args.self.now _ p.looks refl p.held p.tickets refl s safe
+    site_saw g.W.Disk.meaning g.met.W.Disk.only_now c.args.self.now _ p.looks refl p.held p.tickets refl k safe
 
 pub returns-in_ok-missing-in-Lacks-clause-safe : goal.returns-in_ok-missing-in-Lacks-clause-safe
-returns-in_ok-missing-in-Lacks-clause-safe g c = λ wanted s along safe.
+returns-in_ok-missing-in-Lacks-clause-safe g c = λ wanted k along safe.
     let p = c.present.ensures in
-    site_saw g.W.Disk.meaning g.met.W.Disk.only_now c.args.self.now _ p.looks refl p.held p.tickets c.fail.ensures.reports.shut s safe
+    site_saw g.W.Disk.meaning g.met.W.Disk.only_now c.args.self.now _ p.looks refl p.held p.tickets c.fail.ensures.reports.shut k safe
 
 pub returns-in-Record-clause-safe : goal.returns-in-Record-clause-safe
 returns-in-Record-clause-safe g c =

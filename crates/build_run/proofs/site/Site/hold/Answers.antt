@@ -63,6 +63,6 @@ returns-then-len-most_jobs-clause-safe g c =
     holds_now g.W.Disk.meaning g.met.W.Disk.only_now c.args.busy c.args.self.now _ refl refl c.add.ensures refl refl
 
 pub returns-clause-safe : goal.returns-clause-safe
-returns-clause-safe g c = λ s safe tickets.
-    let put = c.put_held.ensures.safe s (held_now g.W.Disk.meaning c.args.busy c.args.self.now _ refl refl c.add.ensures refl refl s safe tickets) in
+returns-clause-safe g c = λ k safe tickets.
+    let put = c.put_held.ensures.safe k (held_now g.W.Disk.meaning c.args.busy c.args.self.now _ refl refl c.add.ensures refl refl k safe tickets) in
     record { moments = put.moments; now = put.now }

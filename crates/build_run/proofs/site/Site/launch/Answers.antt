@@ -1,4 +1,4 @@
-use Rattle.build_run.proofs.Stopping.{site_begun, site_rests, site_safely_on}
+use Rattle.build_run.proofs.Stopping.{site_begun, site_rests, takes_then}
 use Rattle.world_api.proofs.Looking.{told_same}
 use Rattle.std.proofs.Common.{◌++◌, ◌∙◌, List, Contains, ap, refl, subst, sym}
 use Rattle.build_run.specs.Holds.{Busy, holds_in}
@@ -131,14 +131,14 @@ pub returns-in_err-show-clause-safe : goal.returns-in_err-show-clause-safe
 returns-in_err-show-clause-safe g c =
     let m = g.W.Disk.meaning in
     let cleared = c.clear.new.self in
-    site_safely_on m c.args.self.now cleared _ (told_same m cleared.world.now) c.clear.ensures.safe
+    takes_then m c.args.job.targets c.args.self.now cleared _ (told_same m cleared.world.now) c.clear.ensures.safe
     (site_rests m g.met.W.Disk.only_now cleared _ refl refl refl refl (λ unshut. sym (ap (λ (l : Ledger). l.shut) c.show.ensures.account) ∙ unshut))
 
 pub returns-clause-safe : goal.returns-clause-safe
 returns-clause-safe g c =
     let m = g.W.Disk.meaning in
     let cleared = c.clear.new.self in
-    site_safely_on m c.args.self.now cleared _ c.begin.ensures.passes.told c.clear.ensures.safe
+    takes_then m c.args.job.targets c.args.self.now cleared _ c.begin.ensures.passes.told c.clear.ensures.safe
     (site_begun m cleared _ c.args.job c.begin.result c.begin.ensures.passes.told c.begin.ensures.safe c.begin.ensures.starts c.begin.ensures.asks refl refl
     (λ unshut. sym (ap (λ (l : Ledger). l.shut) c.show.ensures.account) ∙ unshut)
     (unheld_still c.args.self.now.run.now.held cleared.run.now.held c.args.job.targets c.clear.ensures.held c.requires.ready.beside)

@@ -1,3 +1,4 @@
+use Rattle.build_run.proofs.Allowing.{found_allows}
 use Rattle.build_run.proofs.Begun.{starts_behind}
 use Rattle.build_run.proofs.Stopping.{site_rests}
 use Rattle.build_run.proofs.Turning.{site_saw}
@@ -74,10 +75,10 @@ returns-in_err-why-clause-along g c = λ tells sure o outset along due.
     (ended_looked m o outset site along c.why_text.new.world site.run.now refl (looks.around tells))
 
 pub returns-in_err-why-clause-safe : goal.returns-in_err-why-clause-safe
-returns-in_err-why-clause-safe g c = λ s safe over.
+returns-in_err-why-clause-safe g c = λ k safe over.
     let m = g.W.Disk.meaning in
     let looks = looks_joined m _ _ _ c.is_stale.ensures.looks c.why_text.ensures.looks in
-    site_saw m g.met.W.Disk.only_now c.args.self.now _ looks refl refl refl refl s safe
+    site_saw m g.met.W.Disk.only_now c.args.self.now _ looks refl refl refl refl k safe
 
 pub start-requires-clause-sound : goal.start-requires-clause-sound
 start-requires-clause-sound g c =
@@ -174,30 +175,34 @@ returns-clause-along g c = λ tells sure o outset along due.
     }
 
 pub returns-in_err-is_stale-clause-safe : goal.returns-in_err-is_stale-clause-safe
-returns-in_err-is_stale-clause-safe g c = λ s safe over.
-    site_saw g.W.Disk.meaning g.met.W.Disk.only_now c.args.self.now _ c.is_stale.ensures.looks refl refl refl refl s safe
+returns-in_err-is_stale-clause-safe g c = λ k safe over.
+    site_saw g.W.Disk.meaning g.met.W.Disk.only_now c.args.self.now _ c.is_stale.ensures.looks refl refl refl refl k safe
 
 pub returns-then-not-branch-clause-safe : goal.returns-then-not-branch-clause-safe
-returns-then-not-branch-clause-safe g c = λ s safe over.
-    site_saw g.W.Disk.meaning g.met.W.Disk.only_now c.args.self.now _ c.is_stale.ensures.looks refl refl refl refl s safe
+returns-then-not-branch-clause-safe g c = λ k safe over.
+    site_saw g.W.Disk.meaning g.met.W.Disk.only_now c.args.self.now _ c.is_stale.ensures.looks refl refl refl refl k safe
 
 pub returns-in_err-start-clause-safe : goal.returns-in_err-start-clause-safe
 returns-in_err-start-clause-safe g c =
     let m = g.W.Disk.meaning in
     let looks = looks_joined m _ _ _ c.is_stale.ensures.looks c.why_text.ensures.looks in
-    starts_behind m c.args.self.now _ c.start.new.self c.args.now looks c.start.ensures.passes.passes.told
+    starts_behind m c.args.self.now _ c.start.new.self c.args.rule c.args.now looks c.start.ensures.passes.passes.told
     (site_saw m g.met.W.Disk.only_now c.args.self.now _ looks refl refl refl refl) c.start.ensures.safe
+    (λ t. found_allows m c.args.self.now c.requires.sound g.met.W.Disk.reads_as (looks.told.told t) c.args.rule c.args.now c.in_ok-is_stale.field-0
+    c.if-not-branch.false (c.in_ok-is_stale.ensures.due (c.why_text.ensures.looks.told.told t)))
 
 pub returns-clause-safe : goal.returns-clause-safe
-returns-clause-safe g c = λ s safe over.
+returns-clause-safe g c = λ k safe over.
     let m = g.W.Disk.meaning in
     let looks = looks_joined m _ _ _ c.is_stale.ensures.looks c.why_text.ensures.looks in
     let now = c.start.new.self in
-    let one = starts_behind m c.args.self.now _ now c.args.now looks c.start.ensures.passes.passes.told
-    (site_saw m g.met.W.Disk.only_now c.args.self.now _ looks refl refl refl refl) c.start.ensures.safe s safe over in
+    let one = starts_behind m c.args.self.now _ now c.args.rule c.args.now looks c.start.ensures.passes.passes.told
+    (site_saw m g.met.W.Disk.only_now c.args.self.now _ looks refl refl refl refl) c.start.ensures.safe
+    (λ t. found_allows m c.args.self.now c.requires.sound g.met.W.Disk.reads_as (looks.told.told t) c.args.rule c.args.now c.in_ok-is_stale.field-0
+    c.if-not-branch.false (c.in_ok-is_stale.ensures.due (c.why_text.ensures.looks.told.told t))) k safe over in
     record {
       moments = one.moments;
-      now = (site_rests m g.met.W.Disk.only_now now _ refl refl refl refl (λ unshut. sym c.note_start.ensures.keeps.shut ∙ unshut) s one.now).now;
+      now = (site_rests m g.met.W.Disk.only_now now _ refl refl refl refl (λ unshut. sym c.note_start.ensures.keeps.shut ∙ unshut) k one.now).now;
     }
 
 pub returns-clause-shows : goal.returns-clause-shows

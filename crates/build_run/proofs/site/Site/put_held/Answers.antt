@@ -1,4 +1,4 @@
-use Rattle.build_run.proofs.Stopping.{none_fewer, put_safe, site_stored}
+use Rattle.build_run.proofs.Stopping.{none_fewer, none_taken, put_safe, put_watched, site_stored}
 use Rattle.sign_store.specs.Putting.{PutsThroughout}
 use Rattle.sign_store.specs.Stores.{map_of}
 use Rattle.build_run.proofs.Stopping.{same_tickets, site_looked}
@@ -113,10 +113,11 @@ returns-in-Ok-clause-safe g c =
     let held = site.run.now.held in
     let are = held_outs store held (outs_front store held site.run.now.tickets (c.requires.outs c.if-self.false)) in
     let kept = c.requires.kept c.if-self.false in
-    site_stored m g.met.W.Disk.only_now g.met.W.Disk.reads_as site _ (map_with store held) c.put.ensures.told c.put.ensures.around kept
+    none_taken m site _ (site_stored m g.met.W.Disk.only_now g.met.W.Disk.reads_as [] site _ (map_with store held) c.put.ensures.told c.put.ensures.around kept
     (subst (λ (all : List Busy). PutsThroughout m site.world.now c.put.new.world store all) c.as_slice.ensures c.put.ensures.moments are kept)
-    (λ s tickets was. put_safe s (m.around site.world.now) store held (map_of store) (tickets.held c.if-self.false) was)
-    c.put.ensures.tickets (none_fewer held _ c.clear-in-Ok.ensures) refl (λ unshut. unshut)
+    (λ k tickets was. put_safe k (m.around site.world.now) store held (map_of store) (tickets.held c.if-self.false) was)
+    (λ k goes tells sure tickets watched. put_watched k (m.around site.world.now) store held (map_of store) (tickets.held c.if-self.false) watched)
+    c.put.ensures.tickets (none_fewer held _ c.clear-in-Ok.ensures) refl (λ unshut. unshut))
 
 pub returns-in-Err-clause-safe : goal.returns-in-Err-clause-safe
 returns-in-Err-clause-safe g c =
@@ -126,7 +127,8 @@ returns-in-Err-clause-safe g c =
     let held = site.run.now.held in
     let are = held_outs store held (outs_front store held site.run.now.tickets (c.requires.outs c.if-self.false)) in
     let kept = c.requires.kept c.if-self.false in
-    site_stored m g.met.W.Disk.only_now g.met.W.Disk.reads_as site _ (map_with store held) c.put.ensures.told c.put.ensures.around kept
+    none_taken m site _ (site_stored m g.met.W.Disk.only_now g.met.W.Disk.reads_as [] site _ (map_with store held) c.put.ensures.told c.put.ensures.around kept
     (subst (λ (all : List Busy). PutsThroughout m site.world.now c.put.new.world store all) c.as_slice.ensures c.put.ensures.moments are kept)
-    (λ s tickets was. put_safe s (m.around site.world.now) store held (map_of store) (tickets.held c.if-self.false) was)
-    c.put.ensures.tickets (none_fewer held _ c.clear-in-Err.ensures) refl (λ unshut. absurd (false≢true (sym unshut ∙ c.end.ensures.reports.shut)))
+    (λ k tickets was. put_safe k (m.around site.world.now) store held (map_of store) (tickets.held c.if-self.false) was)
+    (λ k goes tells sure tickets watched. put_watched k (m.around site.world.now) store held (map_of store) (tickets.held c.if-self.false) watched)
+    c.put.ensures.tickets (none_fewer held _ c.clear-in-Err.ensures) refl (λ unshut. absurd (false≢true (sym unshut ∙ c.end.ensures.reports.shut))))

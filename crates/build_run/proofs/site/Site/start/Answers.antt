@@ -2,9 +2,10 @@ use Rattle.build_run.proofs.Begun.{own_launched, site_kept}
 use Rattle.build_run.proofs.Ended.{mapped}
 use Rattle.build_run.proofs.Goings.{told_here}
 use Rattle.build_run.proofs.Holding.{in_pushed}
-use Rattle.build_run.proofs.Stopping.{site_rests, site_safely_on}
+use Rattle.build_run.proofs.Stopping.{site_rests, site_then}
 use Rattle.build_run.specs.Holds.{hold_of}
 use Rattle.build_run.specs.Safe.{AreSafeIn, HasOwnRecord}
+use Rattle.build_run.specs.Watches.{MayGo}
 use Rattle.std.proofs.Common.{◌∙◌, ◌++◌, ◌∷◌, ℕ, List, [], Contains, inl, inr, ap, append_assoc, arith, length, length-append, refl, subst, sym}
 use Rattle.std.proofs.lemmas.List.{map-append}
 use Rattle.sign_store.specs.Tables.{Map}
@@ -297,44 +298,46 @@ returns-clause-along g c = λ tells sure o outset along due is_due.
     _ tells c.in-Err.ensures.refused refl refl))
 
 pub returns-then-self-clause-safe : goal.returns-then-self-clause-safe
-returns-then-self-clause-safe g c = λ s safe over.
-    site_rests g.W.Disk.meaning g.met.W.Disk.only_now c.args.self.now _ refl refl refl refl (λ unshut. unshut) s safe
+returns-then-self-clause-safe g c = λ k safe over.
+    site_rests g.W.Disk.meaning g.met.W.Disk.only_now c.args.self.now _ refl refl refl refl (λ unshut. unshut) k safe
 
 pub returns-in_err-text-clause-safe : goal.returns-in_err-text-clause-safe
-returns-in_err-text-clause-safe g c = λ s safe over.
-    site_rests g.W.Disk.meaning g.met.W.Disk.only_now c.args.self.now _ refl refl refl refl (λ unshut. unshut) s safe
+returns-in_err-text-clause-safe g c = λ k safe over.
+    site_rests g.W.Disk.meaning g.met.W.Disk.only_now c.args.self.now _ refl refl refl refl (λ unshut. unshut) k safe
 
 pub returns-in_err-job-clause-safe : goal.returns-in_err-job-clause-safe
-returns-in_err-job-clause-safe g c = λ s safe over.
-    site_rests g.W.Disk.meaning g.met.W.Disk.only_now c.args.self.now _ refl refl refl refl (λ unshut. unshut) s safe
+returns-in_err-job-clause-safe g c = λ k safe over.
+    site_rests g.W.Disk.meaning g.met.W.Disk.only_now c.args.self.now _ refl refl refl refl (λ unshut. unshut) k safe
 
 pub returns-in_err-hold-clause-safe : goal.returns-in_err-hold-clause-safe
-returns-in_err-hold-clause-safe g c = λ s safe over.
-    site_rests g.W.Disk.meaning g.met.W.Disk.only_now c.args.self.now _ refl refl refl refl (λ unshut. unshut) s safe
+returns-in_err-hold-clause-safe g c = λ k safe over.
+    site_rests g.W.Disk.meaning g.met.W.Disk.only_now c.args.self.now _ refl refl refl refl (λ unshut. unshut) k safe
 
 pub returns-then-not-are_apart-clause-safe : goal.returns-then-not-are_apart-clause-safe
-returns-then-not-are_apart-clause-safe g c = λ s safe over.
-    site_rests g.W.Disk.meaning g.met.W.Disk.only_now c.args.self.now _ refl refl refl refl (λ unshut. unshut) s safe
+returns-then-not-are_apart-clause-safe g c = λ k safe over.
+    site_rests g.W.Disk.meaning g.met.W.Disk.only_now c.args.self.now _ refl refl refl refl (λ unshut. unshut) k safe
 
 pub returns-then-not-make_none_of-clause-safe : goal.returns-then-not-make_none_of-clause-safe
-returns-then-not-make_none_of-clause-safe g c = λ s safe over.
-    site_rests g.W.Disk.meaning g.met.W.Disk.only_now c.args.self.now _ refl refl refl refl (λ unshut. unshut) s safe
+returns-then-not-make_none_of-clause-safe g c = λ k safe over.
+    site_rests g.W.Disk.meaning g.met.W.Disk.only_now c.args.self.now _ refl refl refl refl (λ unshut. unshut) k safe
 
 pub returns-in_err-ticket-clause-safe : goal.returns-in_err-ticket-clause-safe
-returns-in_err-ticket-clause-safe g c = λ s safe over.
-    site_kept g.W.Disk.meaning g.met.W.Disk.only_now c.args.self.now _ refl c.prepare.ensures.tickets refl refl (λ unshut. unshut) s safe
+returns-in_err-ticket-clause-safe g c = λ k safe over.
+    site_kept g.W.Disk.meaning g.met.W.Disk.only_now c.args.self.now _ refl c.prepare.ensures.tickets refl refl (λ unshut. unshut) k safe
 
 pub returns-clause-safe : goal.returns-clause-safe
-returns-clause-safe g c = λ s safe over.
+returns-clause-safe g c = λ k safe over.
     let m = g.W.Disk.meaning in
     let now = c.launch.new.self in
-    site_safely_on m c.args.self.now now _ (told_here m now.world.now)
-    (site_safely_on m c.args.self.now _ now c.launch.ensures.passes.passes.told
-    (site_kept m g.met.W.Disk.only_now c.args.self.now _ refl c.prepare.ensures.tickets refl refl (λ unshut. unshut)) c.launch.ensures.safe)
-    (site_kept m g.met.W.Disk.only_now now _ refl c.give_up.ensures.tickets refl refl (λ unshut. unshut)) s safe
+    site_then m k c.args.self.now now _ (told_here m now.world.now)
+    (site_then m k c.args.self.now _ now c.launch.ensures.passes.passes.told
+    (site_kept m g.met.W.Disk.only_now c.args.self.now _ refl c.prepare.ensures.tickets refl refl (λ unshut. unshut) k safe)
+    (c.launch.ensures.safe k (λ tells sure.
+    subst (λ (paths : List (List ℕ)). MayGo k (m.around c.args.self.now.world.now) paths) (sym c.in_ok-job.ensures.targets) (over tells sure).allows.goes)))
+    (site_kept m g.met.W.Disk.only_now now _ refl c.give_up.ensures.tickets refl refl (λ unshut. unshut) k)
 
 pub returns-in-Ok-clause-safe : goal.returns-in-Ok-clause-safe
-returns-in-Ok-clause-safe g c = λ s safe over.
+returns-in-Ok-clause-safe g c = λ k safe over.
     let m = g.W.Disk.meaning in
     let site = c.args.self.now in
     let now = c.launch.new.self in
@@ -343,8 +346,10 @@ returns-in-Ok-clause-safe g c = λ s safe over.
     let told = c.launch.ensures.passes.passes.told in
     let new : Busy = record { hold = c.in_ok-hold.hold; ticket = c.in_ok-ticket.ticket } in
     let apart = c.are_apart.ensures c.if-not-are_apart.false in
-    let chain = site_safely_on m site _ now told
-    (site_kept m g.met.W.Disk.only_now site _ refl c.prepare.ensures.tickets refl refl (λ unshut. unshut)) c.launch.ensures.safe s safe in
+    let chain = site_then m k site _ now told
+    (site_kept m g.met.W.Disk.only_now site _ refl c.prepare.ensures.tickets refl refl (λ unshut. unshut) k safe)
+    (c.launch.ensures.safe k (λ tells sure.
+    subst (λ (paths : List (List ℕ)). MayGo k (m.around site.world.now) paths) (sym from.targets) (over tells sure).allows.goes)) in
     record {
       moments = chain.moments;
       now = record {
@@ -352,12 +357,12 @@ returns-in-Ok-clause-safe g c = λ s safe over.
         tickets = λ tells sure.
             let t = chain.now.tickets tells sure in
             let before = told.told tells in
-            subst (λ (all : List Busy). AreSafeIn m s now.world.now now.store.now now.run.now.held all now.account.now) (sym c.add.ensures) (record {
+            subst (λ (all : List Busy). AreSafeIn m k now.world.now now.store.now now.run.now.held all now.account.now) (sym c.add.ensures) (record {
               held = t.held;
               tickets = λ busy h. elim (in_pushed now.run.now.tickets new busy h) [
                 | inl more ↦ t.tickets busy more
-                | inr same ↦ subst (λ (b : Busy). HasOwnRecord s now.store.now (m.around now.world.now) b) same
-                    (own_launched s job (m.counts site.world.now) (m.around site.world.now) (m.around now.world.now) c.args.now now.store.now new
+                | inr same ↦ subst (λ (b : Busy). HasOwnRecord k now.store.now (m.around now.world.now) b) same
+                    (own_launched k job (m.counts site.world.now) (m.around site.world.now) (m.around now.world.now) c.args.now now.store.now new
                     (c.in-Ok.ensures.starts tells) (over before (told.sure tells sure))
                     (c.launch.ensures.outs.each c.args.now new.ticket c.in_ok-ticket.ensures.out.own)
                     from.work from.signed from.targets from.deps

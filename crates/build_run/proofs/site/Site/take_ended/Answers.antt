@@ -280,37 +280,37 @@ returns-in_default-outcome-clause-along g c = λ t sure o outset may.
     (c.requires.sound.joined.runs (c.wait-ended.ensures.passes.told.told t)) c.requires.sound.joined.apart (m.sure world) sure (c.wait-ended.ensures.ends t)
 
 pub returns-in_default-clause-safe : goal.returns-in_default-clause-safe
-returns-in_default-clause-safe g c = λ s safe.
+returns-in_default-clause-safe g c = λ k safe.
     let m = g.W.Disk.meaning in
     let site = c.args.self.now in
-    let one = c.wait-ended.ensures.safe s safe.world in
+    let one = c.wait-ended.ensures.safe k safe.world in
     record {
       moments = one.moments;
       now = record {
         world = one.now;
-        tickets = are_ended m s c.wait-ended.result site.world.now c.wait-ended.new.world site.store.now site.store.now site.run.now.held
+        tickets = are_ended m k c.wait-ended.result site.world.now c.wait-ended.new.world site.store.now site.store.now site.run.now.held
             site.run.now.tickets c.take.new.self site.account.now c.want_memory.new.self c.wait-ended.ensures.passes.told c.wait-ended.ensures.ends
             (same_tickets site.store.now) c.take.ensures.fewer (λ unshut. sym (ap (λ (l : Ledger). l.shut) c.want_memory.ensures.ledger) ∙ unshut) safe.tickets;
       };
     }
 
 pub returns-in_default-outcome-clause-safe : goal.returns-in_default-outcome-clause-safe
-returns-in_default-outcome-clause-safe g c = λ s safe.
+returns-in_default-outcome-clause-safe g c = λ k safe.
     let m = g.W.Disk.meaning in
     let site = c.args.self.now in
-    let one = c.wait-ended.ensures.safe s safe.world in
+    let one = c.wait-ended.ensures.safe k safe.world in
     record {
       moments = one.moments;
       now = record {
         world = one.now;
-        tickets = are_ended m s c.wait-ended.result site.world.now c.wait-ended.new.world site.store.now c.give_up.new.store site.run.now.held
+        tickets = are_ended m k c.wait-ended.result site.world.now c.wait-ended.new.world site.store.now c.give_up.new.store site.run.now.held
             site.run.now.tickets c.take.new.self site.account.now c.not_done.new.account c.wait-ended.ensures.passes.told c.wait-ended.ensures.ends
             c.give_up.ensures.tickets c.take.ensures.fewer (λ unshut. sym c.not_done.ensures.reports.1.shut ∙ unshut) safe.tickets;
       };
     }
 
 pub returns-in-Done-clause-safe : goal.returns-in-Done-clause-safe
-returns-in-Done-clause-safe g c = λ s safe.
+returns-in-Done-clause-safe g c = λ k safe.
     let m = g.W.Disk.meaning in
     let site = c.args.self.now in
     let store = site.store.now in
@@ -318,14 +318,14 @@ returns-in-Done-clause-safe g c = λ s safe.
     let left = c.take.new.self in
     let busy = c.in-Some.busy in
     let world = c.wait-ended.new.world in
-    let one = c.wait-ended.ensures.safe s safe.world in
-    let two = c.hold.ensures.safe s one.now
-    (are_done m s c.wait-ended.result site.world.now world store held site.run.now.tickets left busy site.account.now c.wait-ended.ensures.passes.told
+    let one = c.wait-ended.ensures.safe k safe.world in
+    let two = c.hold.ensures.safe k one.now
+    (are_done m k c.wait-ended.result site.world.now world store held site.run.now.tickets left busy site.account.now c.wait-ended.ensures.passes.told
     c.wait-ended.ensures.ends c.take.ensures.fewer c.in-Some.ensures.among c.in-Done.is (sym c.in-Some.ensures.rule) safe.world
     (λ t. c.wait-ended.ensures.joined.runs t ∙ sym c.take.ensures.left)
     (λ unshut. (outs_back store held (busy ∷ left) (c.in-Some.ensures.outs store held (c.requires.sound.stored.outs unshut))).1) safe.tickets) in
     record {
-      moments = (safe_on m s site.world.now world c.hold.new.self.world.now c.hold.ensures.puts.goes.passes.told one
+      moments = (safe_on m k site.world.now world c.hold.new.self.world.now c.hold.ensures.puts.goes.passes.told one
           (λ now. record { moments = two.moments; now = two.now.world })).moments;
       now = two.now;
     }

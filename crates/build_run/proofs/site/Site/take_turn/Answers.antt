@@ -8,7 +8,7 @@ use Rattle.build_run.proofs.Endings.{counts_still}
 use Rattle.build_run.proofs.site.Site.take_turn.Goals as goal
 
 pub returns-in-Scan-clause-safe : goal.returns-in-Scan-clause-safe
-returns-in-Scan-clause-safe g c = λ wanted s along safe. c.scan.ensures.safe s safe
+returns-in-Scan-clause-safe g c = λ wanted k along safe. c.scan.ensures.safe k safe
 
 pub returns-in-Decide-clause-safe : goal.returns-in-Decide-clause-safe
 returns-in-Decide-clause-safe g c =
@@ -16,12 +16,12 @@ returns-in-Decide-clause-safe g c =
     c.decide.ensures.safe
 
 pub returns-in-Wait-clause-safe : goal.returns-in-Wait-clause-safe
-returns-in-Wait-clause-safe g c = λ wanted s along safe. c.take_ending.ensures.safe s safe
+returns-in-Wait-clause-safe g c = λ wanted k along safe. c.take_ending.ensures.safe k safe
 
 pub returns-in-Rest-clause-safe : goal.returns-in-Rest-clause-safe
-returns-in-Rest-clause-safe g c = λ wanted s along safe.
+returns-in-Rest-clause-safe g c = λ wanted k along safe.
     let site = c.args.self.now in
-    site_rests g.W.Disk.meaning g.met.W.Disk.only_now site site refl refl refl refl (λ unshut. unshut) s safe
+    site_rests g.W.Disk.meaning g.met.W.Disk.only_now site site refl refl refl refl (λ unshut. unshut) k safe
 
 pub returns-in-Scan-clause-printing : goal.returns-in-Scan-clause-printing
 returns-in-Scan-clause-printing g c = quiet_turn g.W.Disk.meaning g.O.Sink.meaning _ _ _ _ c.scan.ensures.quiet

@@ -1,7 +1,9 @@
 use Rattle.std.proofs.lemmas.Bool.{false≢true}
 use Rattle.sign_store.specs.Putting.{WithdrawsThroughout}
-use Rattle.build_run.proofs.Stopping.{none_fewer, put_safe, site_rests, site_stored, unset_safe}
-use Rattle.std.proofs.Common.{◌≡◌, ◌∙◌, ◌++◌, [], List, ap, arith, inl, inr, length, refl, sym, subst, true}
+use Rattle.build_run.specs.Watches.{MayGo}
+use Rattle.build_run.proofs.Stopping.{none_fewer, put_safe, put_watched, site_rests, site_stored, site_takes, unset_safe}
+use Rattle.build_run.proofs.Watching.{watched_unset}
+use Rattle.std.proofs.Common.{◌≡◌, ◌∙◌, ◌++◌, [], ℕ, List, ap, arith, inl, inr, length, refl, sym, subst, true}
 use Rattle.sign_store.specs.Putting.{AreOutWith, IsApartFrom, map_with, map_without}
 use Rattle.sign_store.specs.Stores.{map_of}
 use Rattle.sign_store.proofs.Keeping.{stands_in}
@@ -161,7 +163,8 @@ returns-then-not-has_record-clause-tickets g c = record { each = λ rec ticket i
 
 pub returns-then-not-has_record-clause-safe : goal.returns-then-not-has_record-clause-safe
 returns-then-not-has_record-clause-safe g c =
-    site_rests g.W.Disk.meaning g.met.W.Disk.only_now c.args.self.now _ refl refl refl refl (λ unshut. unshut)
+    site_takes g.W.Disk.meaning c.args.job.now.targets c.args.self.now _
+    (site_rests g.W.Disk.meaning g.met.W.Disk.only_now c.args.self.now _ refl refl refl refl (λ unshut. unshut))
 
 pub returns-in-Ok-clause-safe : goal.returns-in-Ok-clause-safe
 returns-in-Ok-clause-safe g c =
@@ -173,11 +176,14 @@ returns-in-Ok-clause-safe g c =
     let t = ready.out in
     let kept = c.requires.sound.stored.kept ready.unshut in
     let with = out_with store held site.run.now.tickets c.args.ticket.now c.args.job.now.targets t (c.requires.sound.stored.outs ready.unshut) ready.room ready.beside in
-    site_stored m g.met.W.Disk.only_now g.met.W.Disk.reads_as site _ (map_without store held t.rec) c.withdraw.ensures.told c.withdraw.ensures.around kept
+    site_stored m g.met.W.Disk.only_now g.met.W.Disk.reads_as c.args.job.now.targets site _ (map_without store held t.rec) c.withdraw.ensures.told c.withdraw.ensures.around kept
     (subst (λ (all : List Busy). WithdrawsThroughout m site.world.now c.withdraw.new.world store all c.args.ticket.now) c.as_slice.ensures
     c.withdraw.ensures.moments t.rec with kept)
-    (λ s tickets was. unset_safe s (m.around site.world.now) t.rec.targets (map_with store held)
-    (put_safe s (m.around site.world.now) store held (map_of store) (tickets.held ready.unshut) was))
+    (λ k tickets was. unset_safe k.setting (m.around site.world.now) t.rec.targets (map_with store held)
+    (put_safe k (m.around site.world.now) store held (map_of store) (tickets.held ready.unshut) was))
+    (λ k goes tells sure tickets watched. watched_unset k (m.around site.world.now) t.rec.targets (map_with store held)
+    (subst (λ (paths : List (List ℕ)). MayGo k (m.around site.world.now) paths) (sym t.same) (goes tells sure))
+    (put_watched k (m.around site.world.now) store held (map_of store) (tickets.held ready.unshut) watched))
     c.withdraw.ensures.tickets (none_fewer held _ c.clear.ensures) refl (λ unshut. unshut)
 
 pub returns-in-Err-clause-safe : goal.returns-in-Err-clause-safe
@@ -190,9 +196,12 @@ returns-in-Err-clause-safe g c =
     let t = ready.out in
     let kept = c.requires.sound.stored.kept ready.unshut in
     let with = out_with store held site.run.now.tickets c.args.ticket.now c.args.job.now.targets t (c.requires.sound.stored.outs ready.unshut) ready.room ready.beside in
-    site_stored m g.met.W.Disk.only_now g.met.W.Disk.reads_as site _ (map_without store held t.rec) c.withdraw.ensures.told c.withdraw.ensures.around kept
+    site_stored m g.met.W.Disk.only_now g.met.W.Disk.reads_as c.args.job.now.targets site _ (map_without store held t.rec) c.withdraw.ensures.told c.withdraw.ensures.around kept
     (subst (λ (all : List Busy). WithdrawsThroughout m site.world.now c.withdraw.new.world store all c.args.ticket.now) c.as_slice.ensures
     c.withdraw.ensures.moments t.rec with kept)
-    (λ s tickets was. unset_safe s (m.around site.world.now) t.rec.targets (map_with store held)
-    (put_safe s (m.around site.world.now) store held (map_of store) (tickets.held ready.unshut) was))
+    (λ k tickets was. unset_safe k.setting (m.around site.world.now) t.rec.targets (map_with store held)
+    (put_safe k (m.around site.world.now) store held (map_of store) (tickets.held ready.unshut) was))
+    (λ k goes tells sure tickets watched. watched_unset k (m.around site.world.now) t.rec.targets (map_with store held)
+    (subst (λ (paths : List (List ℕ)). MayGo k (m.around site.world.now) paths) (sym t.same) (goes tells sure))
+    (put_watched k (m.around site.world.now) store held (map_of store) (tickets.held ready.unshut) watched))
     c.withdraw.ensures.tickets (λ busy h. h) refl (λ unshut. absurd (false≢true (sym unshut)))
