@@ -6,6 +6,7 @@ import argparse
 import os
 import re
 import shutil
+import signal
 import subprocess
 import sys
 import tempfile
@@ -85,6 +86,9 @@ class Place:
     """A folder in which trees stand one after another at one path, so that both tools see the same absolute paths."""
 
     def __enter__(self):
+        # (so that nothing is left where the check is ended)
+        for ending in (signal.SIGTERM, signal.SIGHUP):
+            signal.signal(ending, lambda *_: sys.exit("ended"))
         self.room = tempfile.TemporaryDirectory(prefix="scons-check-")
         self.tree = f"{self.room.name}/tree"
         return self
