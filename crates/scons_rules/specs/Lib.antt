@@ -1,1 +1,12 @@
+pub mod Faults
+pub mod Steps
 pub mod Numbers
+pub mod Nodes
+pub mod Orders
+pub mod Walks
+pub mod AliasTable
+pub mod Aliased
+pub mod Sayings
+pub mod Shell
+pub mod Lines
+pub mod PathRules

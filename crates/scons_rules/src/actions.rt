@@ -3,12 +3,13 @@ ghost use Rattle.std.specs.Prelude.{◌≡◌, ◌<◌, IfOk};
 ghost use Rattle.scons_base.specs.declared.limits.TheConstants.{REFERENCE_LIMIT};
 
 use crate::fault::RuleReadFault;
+use crate::one_rule::OneRule;
 use env_subst::SubstFault;
 use env_text::name_alone;
 use env_vars::{EnvValue, Item};
 use scons_base::limits::{LIST_LIMIT, REFERENCE_LIMIT};
-use scons_base::{EnvId, Memory, Text};
-use scons_decls::{Declarations, NameFault};
+use scons_base::{Memory, Text};
+use scons_decls::NameFault;
 use std::alloc::Global;
 
 /// The names that stand for a rule's own nodes and tool, whatever the environment has under them.
@@ -24,20 +25,18 @@ struct Actions<'a> {
 
 /// The actions of these texts. A text that is the name of a list variable alone stands for its items, each an action in turn.
 pub(crate) fn actions_of<'a>(
-    alloc: Global,
-    state: &'a Declarations,
-    env: EnvId,
+    rule: &OneRule<'a>,
     texts: Vec<&'a str>,
 ) -> Result<Vec<&'a str>, RuleReadFault> {
     let mut actions = Actions {
-        left: Vec::new(alloc),
-        found: Vec::with_capacity(alloc, texts.len())?,
+        left: Vec::new(rule.alloc),
+        found: Vec::with_capacity(rule.alloc, texts.len())?,
         references: 0,
     };
     push_in_front(&mut actions.left, texts)?;
     'actions: for _ in 0..u64::MAX {
         match actions.left.pop() {
-            Some(action) => take(alloc, state, env, &mut actions, action)?,
+            Some(action) => take(rule, &mut actions, action)?,
             None => return Ok(actions.found),
         }
     }
@@ -46,15 +45,13 @@ pub(crate) fn actions_of<'a>(
 
 /// An action as it stands, or what stands in its place.
 fn take<'a>(
-    alloc: Global,
-    state: &'a Declarations,
-    env: EnvId,
+    rule: &OneRule<'a>,
     actions: &mut Actions<'a>,
     action: &'a str,
 ) -> Result<(), RuleReadFault> {
-    if let Some((name, items)) = list_named(state, env, action) {
+    if let Some((name, items)) = list_named(rule, action) {
         actions.references += count_one(actions)?;
-        let items = texts_in(alloc, name, items)?;
+        let items = texts_in(rule.alloc, name, items)?;
         return Ok(push_in_front(&mut actions.left, items)?);
     }
     Ok(actions.found.push(action)?)
@@ -72,16 +69,12 @@ fn count_one(actions: &Actions<'_>) -> Result<u64, RuleReadFault>
 }
 
 /// The list variable whose name is all that a text says.
-fn list_named<'a>(
-    state: &'a Declarations,
-    env: EnvId,
-    text: &'a str,
-) -> Option<(&'a str, &'a EnvValue)> {
+fn list_named<'a>(rule: &OneRule<'a>, text: &'a str) -> Option<(&'a str, &'a EnvValue)> {
     let name = name_alone(text)?;
     if OWN_NAMES.contains(&name) {
         return None;
     }
-    let value = state.envs.get(env, name)?;
+    let value = rule.state.envs.get(rule.env(), name)?;
     match value {
         EnvValue::Words(_) | EnvValue::List(_) => Some((name, value)),
         _ => None,

@@ -1,9 +1,10 @@
 //! The libraries that a program names.
 use crate::fault::RuleReadFault;
+use crate::one_rule::OneRule;
 use crate::shell::{refuse_for_shell, refuse_path_for_shell};
 use crate::sources::settled;
-use env_subst::{LibItem, Mode};
-use scons_base::{EnvId, Listing, PathText, Paths, Text};
+use env_subst::LibItem;
+use scons_base::{Listing, PathText, Text};
 use scons_decls::Declarations;
 use std::alloc::Global;
 
@@ -21,34 +22,28 @@ pub struct Wanted {
     pub known: Option<PathText>,
 }
 
-/// The libraries of an environment.
-pub(crate) fn wanted_by(
-    alloc: Global,
-    state: &Declarations,
-    env: EnvId,
-) -> Result<Listing<Wanted>, RuleReadFault> {
-    let names = state.envs.lib_names(env, &state.locals)?;
-    let dirs = state.envs.dirs(env, "LIBPATH", &state.locals)?;
+/// The libraries of a program's environment.
+pub(crate) fn wanted_by(rule: &OneRule<'_>) -> Result<Listing<Wanted>, RuleReadFault> {
+    let names = rule.lib_names()?;
+    let dirs = rule.lib_dirs()?;
     refuse_for_shell(dirs.as_slice())?;
-    let mut wanted = Listing::empty(alloc);
+    let mut wanted = Listing::empty(rule.alloc);
     for name in names.as_slice() {
-        wanted.push(wanted_one(alloc, state, env, dirs.as_slice(), name)?)?;
+        wanted.push(wanted_one(rule, dirs.as_slice(), name)?)?;
     }
     Ok(wanted)
 }
 
 fn wanted_one(
-    alloc: Global,
-    state: &Declarations,
-    env: EnvId,
+    rule: &OneRule<'_>,
     dirs: &[PathText],
     item: &LibItem,
 ) -> Result<Wanted, RuleReadFault> {
     match item {
-        LibItem::Node(path) => library_file(alloc, state, path),
+        LibItem::Node(path) => library_file(rule.alloc, rule.state, path),
         LibItem::Name(name) => {
-            let file = file_name(state, env, name)?;
-            candidates(alloc, state, dirs, file.as_str())
+            let file = file_name(rule, name)?;
+            candidates(rule.alloc, rule.state, dirs, file.as_str())
         }
     }
 }
@@ -68,10 +63,9 @@ fn library_file(
 }
 
 /// The name of a library's file: prefix, name and suffix.
-fn file_name(state: &Declarations, env: EnvId, name: &Text) -> Result<Text, RuleReadFault> {
-    let locals = &state.locals;
-    let prefix = state.envs.subst(env, "$LIBPREFIX", locals, Mode::Text)?;
-    let suffix = state.envs.subst(env, "$LIBSUFFIX", locals, Mode::Text)?;
+fn file_name(rule: &OneRule<'_>, name: &Text) -> Result<Text, RuleReadFault> {
+    let prefix = rule.text("$LIBPREFIX")?;
+    let suffix = rule.text("$LIBSUFFIX")?;
     let mut text = prefix.into_string();
     text.push_str(name.as_str())?;
     text.push_str(suffix.as_str())?;

@@ -1,11 +1,10 @@
 //! What a rule that writes signs: the text, or how it is made of the rule's sources.
 use crate::fault::RuleReadFault;
-use env_subst::{Mode, SubstFault};
+use crate::one_rule::OneRule;
 use scons_base::limits::FILE_LIMIT;
-use scons_base::{Blob, EnvId, Memory, Text, Texts};
-use scons_decls::{Declarations, NameFault};
+use scons_base::{Blob, Memory, Text, Texts};
 use std::alloc::Global;
-use text_files::{TextRefusal, write_bytes};
+use text_files::write_bytes;
 use world_api::Content;
 
 /// What stands between the texts of a Textfile, and between the sources of a Substfile.
@@ -13,35 +12,29 @@ const BETWEEN: &str = "\n";
 
 /// What a Substfile of so many sources signs: their number, what stands between them, and each key with its value.
 pub(crate) fn substituting(
-    alloc: Global,
-    state: &Declarations,
-    env: EnvId,
+    rule: &OneRule<'_>,
     sources: usize,
     pairs: &[(Text, Text)],
 ) -> Result<Texts, RuleReadFault> {
+    let alloc = rule.alloc;
     let mut signed = Texts::new(Vec::new(alloc));
     signed.push(Text::new(format!(in alloc; "{sources}")?))?;
     signed.push(Text::of(alloc, BETWEEN)?)?;
     for (key, value) in pairs {
         signed.push(key.copy()?)?;
-        signed.push(
-            state
-                .envs
-                .subst(env, value.as_str(), &state.locals, Mode::Text)?,
-        )?;
+        signed.push(rule.text(value.as_str())?)?;
     }
     Ok(signed)
 }
 
 /// What a Textfile signs: what a write makes of its texts in the place of files.
 pub(crate) fn written(
-    alloc: Global,
-    state: &Declarations,
-    env: EnvId,
+    rule: &OneRule<'_>,
     texts: &[Text],
     pairs: &[(Text, Text)],
 ) -> Result<Texts, RuleReadFault> {
-    let signed = substituting(alloc, state, env, texts.len(), pairs)?;
+    let alloc = rule.alloc;
+    let signed = substituting(rule, texts.len(), pairs)?;
     let given = contents_of(alloc, texts)?;
     let content = write_bytes(alloc, signed.as_slice(), given.as_slice(), FILE_LIMIT)?;
     let mut written = Texts::new(Vec::new(alloc));
@@ -65,16 +58,5 @@ fn text_of(alloc: Global, content: Content) -> Result<Text, RuleReadFault> {
     match String::from_utf8(bytes.into_vec()) {
         Ok(text) => Ok(Text::new(text)),
         Err(_) => Err(RuleReadFault::Memory),
-    }
-}
-
-impl From<TextRefusal> for RuleReadFault {
-    fn from(refusal: TextRefusal) -> Self {
-        match refusal {
-            TextRefusal::TooLarge(bytes) => {
-                RuleReadFault::Name(NameFault::Subst(SubstFault::TooLong(bytes)))
-            }
-            TextRefusal::Memory => RuleReadFault::Memory,
-        }
     }
 }
