@@ -1,4 +1,5 @@
 -- The faults of the layers below, as faults of a rule.
+use Rattle.std.specs.Prelude.{Result, Ok, Err}
 use Rattle.node_tree.specs.declared.nodes.NodeRefusal.{NodeRefusal}
 use Rattle.node_tree.specs.declared.nodes.NodeRefusal.TheVariants as node
 use Rattle.rule_graph.specs.declared.build_fault.What.TheVariants.{Nodes, Rules}
@@ -47,3 +48,8 @@ of_rule rule.Memory = Memory
 abbrev pub of_text : TextRefusal → RuleReadFault
 of_text (text.TooLarge bytes) = Name (name.Subst (subst.TooLong bytes))
 of_text text.Memory = Memory
+
+-- what a name gives, or its fault
+abbrev pub or_name : {X : Type 0} → Result X NameFault → Result X RuleReadFault
+or_name (Ok x) = Ok x
+or_name (Err fault) = Err (of_name fault)

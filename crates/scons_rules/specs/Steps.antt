@@ -14,3 +14,8 @@ each f (x ∷ xs) = and_then (f x) (λ y. and_then (each f xs) (λ ys. Ok (y ∷
 abbrev pub all_of : {X E : Type 0} → (X → Result (Unit {0}) E) → List X → Result (Unit {0}) E
 all_of f [] = Ok tt
 all_of f (x ∷ xs) = and_then (f x) (λ u. all_of f xs)
+
+-- steps taken one after another, one for each item of a list
+abbrev pub in_turn : {X S E : Type 0} → (X → S → Result S E) → List X → S → Result S E
+in_turn step [] s = Ok s
+in_turn step (x ∷ xs) s = and_then (step x s) (in_turn step xs)

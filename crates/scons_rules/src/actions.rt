@@ -1,6 +1,11 @@
 //! The actions of a rule: one that is the name of a list variable alone stands for an action for each item.
-ghost use Rattle.std.specs.Prelude.{◌≡◌, ◌<◌, IfOk};
-ghost use Rattle.scons_base.specs.declared.limits.TheConstants.{REFERENCE_LIMIT};
+ghost use Rattle.std.specs.Prelude.{◌≡◌, ◌≢◌, ◌++◌, ◌∷◌, true, false, Ok, Err, Some, IfOk, IfErr, OnOk, MatchResult, reverse};
+ghost use Rattle.std.specs.Option.{option_map};
+ghost use Rattle.scons_decls.specs.declared.fault.NameFault.TheVariants as NameFault;
+ghost use Rattle.scons_rules.specs.Expanding.{expanding};
+ghost use Rattle.scons_rules.specs.Steps.{each};
+ghost use Rattle.scons_rules.specs.Actions.{item_text, items_in, items_at, actions_by, too_many_references};
+ghost use Rattle.scons_rules.specs.ActionsLeft.{texts_in, list_items, left_of, comes, may_follow, following, Follows};
 
 use crate::fault::RuleReadFault;
 use crate::one_rule::OneRule;
@@ -15,6 +20,13 @@ use std::alloc::Global;
 /// The names that stand for a rule's own nodes and tool, whatever the environment has under them.
 const OWN_NAMES: [&str; 5] = ["TARGET", "TARGETS", "SOURCE", "SOURCES", "SMARTLINK"];
 
+/// A list variable: words, or items that have to be texts.
+#[derive(Clone, Copy)]
+enum NamedList<'a> {
+    Words(&'a [Text]),
+    Items(&'a str, &'a [Item]),
+}
+
 /// What is left to look at, the last first, what was found, and how many references were followed.
 #[derive(Drop)]
 struct Actions<'a> {
@@ -27,7 +39,11 @@ struct Actions<'a> {
 pub(crate) fn actions_of<'a>(
     rule: &OneRule<'a>,
     texts: Vec<&'a str>,
-) -> Result<Vec<&'a str>, RuleReadFault> {
+) -> Result<Vec<&'a str>, RuleReadFault>
+    ensures ok { IfOk result (λ v. actions_by (expanding rule.now) (texts_in texts.entry.items) ≡ Ok (texts_in v.items)) }
+    ensures fault { IfErr result (λ e. e ≢ RuleReadFault.Memory
+        → actions_by (expanding rule.now) (texts_in texts.entry.items) ≡ Err e) }
+{
     let mut actions = Actions {
         left: Vec::new(rule.alloc),
         found: Vec::with_capacity(rule.alloc, texts.len())?,
@@ -48,49 +64,73 @@ fn take<'a>(
     rule: &OneRule<'a>,
     actions: &mut Actions<'a>,
     action: &'a str,
-) -> Result<(), RuleReadFault> {
-    if let Some((name, items)) = list_named(rule, action) {
-        actions.references += count_one(actions)?;
-        let items = texts_in(rule.alloc, name, items)?;
-        return Ok(push_in_front(&mut actions.left, items)?);
+) -> Result<(), RuleReadFault>
+    ensures { let x = expanding rule.now in let before = comes x actions.old (action.now ∷ left_of actions.old) in
+        MatchResult result (λ _. comes x actions.new (left_of actions.new) ≡ before) (λ e. e ≢ RuleReadFault.Memory → before ≡ Err e) }
+{
+    match list_named(rule, action) {
+        Some(list) => follow(rule, actions, list),
+        None => Ok(actions.found.push(action)?),
     }
-    Ok(actions.found.push(action)?)
 }
 
-/// One more reference, where there may be one.
-fn count_one(actions: &Actions<'_>) -> Result<u64, RuleReadFault>
-    ensures { IfOk result (λ n. (n ≡ 1) × (actions.now.references < REFERENCE_LIMIT)) }
+/// Follows a reference to a list: its items are looked at next.
+fn follow<'a>(
+    rule: &OneRule<'a>,
+    actions: &mut Actions<'a>,
+    list: NamedList<'a>,
+) -> Result<(), RuleReadFault>
+    ensures ok { OnOk result (Follows (list_items list.entry) actions.old actions.new) }
+    ensures fault { IfErr result (λ e. e ≢ RuleReadFault.Memory → following (list_items list.entry) actions.old ≡ Some e) }
+{
+    refuse_many(actions)?;
+    let items = texts_of(rule.alloc, list)?;
+    actions.references += 1;
+    Ok(push_in_front(&mut actions.left, items)?)
+}
+
+/// Refuses one more reference where there may be none, or where too much is left to look at.
+fn refuse_many(actions: &Actions<'_>) -> Result<(), RuleReadFault>
+    ensures ok { OnOk result (may_follow actions.now ≡ true) }
+    ensures fault { IfErr result (λ e. (may_follow actions.now ≡ false) × (e ≡ too_many_references)) }
 {
     if actions.references < REFERENCE_LIMIT && actions.left.len() <= LIST_LIMIT as usize {
-        return Ok(1);
+        return Ok(());
     }
     let fault = SubstFault::TooMany(REFERENCE_LIMIT + 1);
     Err(RuleReadFault::Name(NameFault::Subst(fault)))
 }
 
 /// The list variable whose name is all that a text says.
-fn list_named<'a>(rule: &OneRule<'a>, text: &'a str) -> Option<(&'a str, &'a EnvValue)> {
+fn list_named<'a>(rule: &OneRule<'a>, text: &'a str) -> Option<NamedList<'a>>
+    ensures { option_map list_items result ≡ items_at (expanding rule.now) text.now }
+{
     let name = name_alone(text)?;
     if OWN_NAMES.contains(&name) {
         return None;
     }
-    let value = rule.state.envs.get(rule.env(), name)?;
+    list_in(name, rule.state.envs.get(rule.env(), name)?)
+}
+
+/// The list that the value of a variable is.
+fn list_in<'a>(name: &'a str, value: &'a EnvValue) -> Option<NamedList<'a>>
+    ensures { option_map list_items result ≡ items_in name.now value.now }
+{
     match value {
-        EnvValue::Words(_) | EnvValue::List(_) => Some((name, value)),
+        EnvValue::Words(words) => Some(NamedList::Words(words.as_slice())),
+        EnvValue::List(items) => Some(NamedList::Items(name, items.as_slice())),
         _ => None,
     }
 }
 
 /// The texts of a list variable, which is refused where it has anything else.
-fn texts_in<'a>(
-    alloc: Global,
-    name: &str,
-    value: &'a EnvValue,
-) -> Result<Vec<&'a str>, RuleReadFault> {
-    match value {
-        EnvValue::Words(words) => Ok(strs(alloc, words.as_slice())?),
-        EnvValue::List(items) => item_texts(alloc, name, items.as_slice()),
-        _ => Ok(Vec::new(alloc)),
+fn texts_of<'a>(alloc: Global, list: NamedList<'a>) -> Result<Vec<&'a str>, RuleReadFault>
+    ensures ok { IfOk result (λ v. list_items list.entry ≡ Ok (texts_in v.items)) }
+    ensures fault { IfErr result (λ e. e ≢ RuleReadFault.Memory → list_items list.entry ≡ Err e) }
+{
+    match list {
+        NamedList::Words(words) => Ok(strs(alloc, words)?),
+        NamedList::Items(name, items) => item_texts(alloc, name, items),
     }
 }
 
@@ -98,18 +138,30 @@ fn item_texts<'a>(
     alloc: Global,
     name: &str,
     items: &'a [Item],
-) -> Result<Vec<&'a str>, RuleReadFault> {
+) -> Result<Vec<&'a str>, RuleReadFault>
+    ensures ok { IfOk result (λ v. each (item_text name.now) items.now ≡ Ok (texts_in v.items)) }
+    ensures fault { IfErr result (λ e. e ≢ RuleReadFault.Memory → each (item_text name.now) items.now ≡ Err e) }
+{
     let mut texts = Vec::new(alloc);
     for item in items {
-        match item {
-            Item::Text(text) => texts.push(text.as_str())?,
-            _ => return Err(out_of_profile(alloc, name)),
-        }
+        texts.push(item_text(alloc, name, item)?)?;
     }
     Ok(texts)
 }
 
-fn out_of_profile(alloc: Global, name: &str) -> RuleReadFault {
+fn item_text<'a>(alloc: Global, name: &str, item: &'a Item) -> Result<&'a str, RuleReadFault>
+    ensures ok { IfOk result (λ t. item_text name.now item.now ≡ Ok t.now) }
+    ensures fault { IfErr result (λ e. e ≢ RuleReadFault.Memory → item_text name.now item.now ≡ Err e) }
+{
+    match item {
+        Item::Text(text) => Ok(text.as_str()),
+        _ => Err(out_of_profile(alloc, name)),
+    }
+}
+
+fn out_of_profile(alloc: Global, name: &str) -> RuleReadFault
+    ensures { result ≢ RuleReadFault.Memory → result ≡ RuleReadFault.Name (NameFault.OutOfProfile name.now) }
+{
     match Text::of(alloc, name) {
         Ok(name) => RuleReadFault::Name(NameFault::OutOfProfile(name)),
         Err(_) => RuleReadFault::Memory,
@@ -117,7 +169,9 @@ fn out_of_profile(alloc: Global, name: &str) -> RuleReadFault {
 }
 
 /// These texts, borrowed.
-pub(crate) fn strs<'a>(alloc: Global, texts: &'a [Text]) -> Result<Vec<&'a str>, Memory> {
+pub(crate) fn strs<'a>(alloc: Global, texts: &'a [Text]) -> Result<Vec<&'a str>, Memory>
+    ensures { IfOk result (λ v. texts_in v.items ≡ texts.now) }
+{
     let mut strs = Vec::with_capacity(alloc, texts.len())?;
     for text in texts {
         strs.push(text.as_str())?;
@@ -126,7 +180,9 @@ pub(crate) fn strs<'a>(alloc: Global, texts: &'a [Text]) -> Result<Vec<&'a str>,
 }
 
 /// Puts texts before all that is left, whose last is looked at first.
-fn push_in_front<'a>(left: &mut Vec<&'a str>, texts: Vec<&'a str>) -> Result<(), Memory> {
+fn push_in_front<'a>(left: &mut Vec<&'a str>, texts: Vec<&'a str>) -> Result<(), Memory>
+    ensures { OnOk result (reverse (texts_in left.new.items) ≡ texts_in texts.entry.items ++ reverse (texts_in left.old.items)) }
+{
     let mut texts = texts;
     texts.reverse();
     left.append(&mut texts)?;

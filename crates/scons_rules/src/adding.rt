@@ -1,24 +1,24 @@
 //! One declared rule, put into the graph.
 ghost use Rattle.std.specs.Prelude.{◌≡◌, ◌≢◌, ◌<◌, ℕ, Ok, Err, length, IfOk, IfErr, OnOk};
 ghost use Rattle.rule_graph.specs.Rules.{IsRule};
+ghost use Rattle.scons_rules.specs.Expanding.{expanding};
+ghost use Rattle.scons_rules.specs.Making as spec;
 ghost use Rattle.scons_rules.specs.Nodes.{AreNodes, AreNamed, all_interned, lists_of};
 ghost use Rattle.scons_rules.specs.PathRules.{by_paths, rules_in, with_rule};
+ghost use Rattle.scons_rules.specs.PathGraphs.{graph_by};
+ghost use Rattle.scons_rules.specs.Ruling.{added};
 
-use crate::actions::{actions_of, strs};
 use crate::fault::RuleReadFault;
 use crate::interning::{named_nodes, nodes_of};
-use crate::line::{RuleLines, lines_of};
-use crate::locals::{RuleLocals, is_cplusplus_source};
+use crate::locals::RuleLocals;
+use crate::making::{Making, making_of};
 use crate::one_rule::OneRule;
 use crate::reading::RuleReading;
 use crate::said::OfRule;
-use crate::shell::refuse_for_shell;
 use crate::sources::all_settled;
-use crate::writing::{substituting, written};
 use env_subst::Named;
 use rule_graph::{Graph, Rule};
-use scons_base::{Listing, Memory, NodeId, PathText, Paths, Text};
-use scons_decls::{Declaration, Recipe};
+use scons_base::{Listing, Memory, NodeId, PathText, Paths};
 use std::alloc::Global;
 use world_api::Work;
 
@@ -51,16 +51,38 @@ impl RuleReading {
         number: usize,
         locals: &RuleLocals,
         libraries: &Paths,
-    ) -> Result<(), RuleReadFault> {
-        let Some(rule) = OneRule::at(self.alloc, &self.state, number, &locals.locals) else {
+    ) -> Result<(), RuleReadFault>
+        ensures ok { OnOk result (added self.old.declared number locals.now libraries.now (graph_by self.old.graph)
+            ≡ Ok (graph_by self.new.graph)) }
+        ensures fault { IfErr result (λ e. e ≢ RuleReadFault.Memory
+            → added self.old.declared number locals.now libraries.now (graph_by self.old.graph) ≡ Err e) }
+        ensures rest { self.new.declared ≡ self.old.declared }
+    {
+        let Some(rule) = OneRule::at(self.alloc, &self.state, number, &locals.locals, &self.dirs)
+        else {
             return Ok(());
         };
         let said = self.said.of_rule(self.alloc, rule.declared.targets.as_slice())?;
-        let paths = rule_paths(&rule, libraries, &said)?;
-        let nodes = rule_nodes(self.alloc, &mut self.graph, &paths)?;
-        let made = rule_of(&rule, nodes, said.always)?;
-        put(&mut self.graph, made)
+        add_rule(&mut self.graph, &rule, &said, libraries)
     }
+}
+
+/// Puts a rule, with what was said of it, into a graph.
+fn add_rule(
+    graph: &mut Graph,
+    rule: &OneRule<'_>,
+    said: &OfRule,
+    libraries: &Paths,
+) -> Result<(), RuleReadFault>
+    ensures ok { OnOk result (spec.put_made (expanding rule.now) said.now libraries.now (graph_by graph.old)
+        ≡ Ok (graph_by graph.new)) }
+    ensures fault { IfErr result (λ e. e ≢ RuleReadFault.Memory
+        → spec.put_made (expanding rule.now) said.now libraries.now (graph_by graph.old) ≡ Err e) }
+{
+    let making = making_of(rule)?;
+    let paths = rule_paths(rule, libraries, said)?;
+    let nodes = rule_nodes(rule.alloc, graph, &paths)?;
+    put(graph, rule_of(rule, making, nodes, said.always))
 }
 
 /// The paths that a rule, its libraries and what was said of it name.
@@ -69,11 +91,12 @@ fn rule_paths<'a>(
     libraries: &'a Paths,
     said: &OfRule,
 ) -> Result<RulePaths<'a>, Memory>
-    ensures { IfOk result (λ p. p.targets.now ≡ rule.now.declared.now.targets) }
+    ensures lists { IfOk result (λ p. lists_of p ≡ spec.lists_by (expanding rule.now) said.now libraries.now) }
+    ensures some { IfOk result (λ p. 0 < length p.targets.now) }
 {
-    let depends = all_settled(rule.alloc, rule.state, said.depends.as_slice())?;
-    let required = all_settled(rule.alloc, rule.state, said.required.as_slice())?;
-    let ignored = all_settled(rule.alloc, rule.state, said.ignored.as_slice())?;
+    let depends = all_settled(rule.alloc, rule.state, rule.dirs, said.depends.as_slice())?;
+    let required = all_settled(rule.alloc, rule.state, rule.dirs, said.required.as_slice())?;
+    let ignored = all_settled(rule.alloc, rule.state, rule.dirs, said.ignored.as_slice())?;
     Ok(RulePaths {
         targets: rule.declared.targets.as_slice(),
         sources: rule.locals.sources.as_slice(),
@@ -127,15 +150,13 @@ fn put(graph: &mut Graph, rule: Rule) -> Result<(), RuleReadFault>
     Ok(())
 }
 
-/// A rule of these nodes, in a graph of so many that they stand there.
-fn rule_of(rule: &OneRule<'_>, nodes: RuleNodes, always: bool) -> Result<Rule, RuleReadFault>
-    ensures { (count : ℕ) → AreNodes count nodes → IfOk result (IsRule count) }
+/// A rule of these nodes, made so.
+fn rule_of(rule: &OneRule<'_>, making: Making, nodes: RuleNodes, always: bool) -> Rule
+    ensures valid { (count : ℕ) → AreNodes count nodes → IsRule count result }
+    ensures of { result ≡ spec.rule_with (expanding rule.now) making nodes always }
 {
-    let lines = rule_lines(rule, nodes.sources.len())?;
-    let paths = search_path(rule)?;
-    let builder = builder_of(rule.alloc, rule.declared)?;
     let work = rule.work();
-    Ok(Rule {
+    Rule {
         work,
         targets: nodes.targets,
         sources: nodes.sources,
@@ -143,93 +164,12 @@ fn rule_of(rule: &OneRule<'_>, nodes: RuleNodes, always: bool) -> Result<Rule, R
         depends: nodes.depends,
         required: nodes.required,
         ignored: nodes.ignored,
-        lines: lines.lines,
-        signed: lines.signed,
-        paths,
+        lines: making.lines,
+        signed: making.signed,
+        paths: making.paths,
         scans: matches!(work, Work::Shell),
         always,
         decider: rule.declared.decider,
-        builder,
-    })
-}
-
-/// The directories in which a rule looks for headers. An object's stand in its line.
-fn search_path(rule: &OneRule<'_>) -> Result<Paths, RuleReadFault> {
-    if !matches!(rule.work(), Work::Shell) {
-        return Ok(Paths::new(Vec::new(rule.alloc)));
+        builder: making.builder,
     }
-    let dirs = rule.header_dirs()?;
-    if matches!(rule.declared.recipe, Recipe::Object) {
-        refuse_for_shell(dirs.as_slice())?;
-    }
-    Ok(dirs)
-}
-
-/// The lines of a rule of so many sources, and what it signs.
-fn rule_lines(rule: &OneRule<'_>, sources: usize) -> Result<RuleLines, RuleReadFault> {
-    let signed = match &rule.declared.recipe {
-        Recipe::Textfile(texts, pairs) => written(rule, texts.as_slice(), pairs.as_slice())?,
-        Recipe::Substfile(pairs) => substituting(rule, sources, pairs.as_slice())?,
-        _ => return shell_lines(rule),
-    };
-    Ok(RuleLines {
-        lines: Listing::empty(rule.alloc),
-        signed,
-    })
-}
-
-fn shell_lines(rule: &OneRule<'_>) -> Result<RuleLines, RuleReadFault> {
-    let actions = actions_of(rule, texts_of(rule)?)?;
-    lines_of(rule, actions.as_slice())
-}
-
-/// The texts whose expansions are the lines.
-fn texts_of<'a>(rule: &OneRule<'a>) -> Result<Vec<&'a str>, Memory> {
-    let alloc = rule.alloc;
-    match &rule.declared.recipe {
-        Recipe::Object => {
-            if is_cplusplus_source(rule.declared.sources.as_slice()) {
-                one_text(alloc, "$CXXCOM")
-            } else {
-                one_text(alloc, "$CCCOM")
-            }
-        }
-        Recipe::Program => one_text(alloc, "$LINKCOM"),
-        Recipe::StaticLibrary => {
-            let mut texts = one_text(alloc, "$ARCOM")?;
-            texts.push("$RANLIBCOM")?;
-            Ok(texts)
-        }
-        Recipe::Command(lines) => strs(alloc, lines.as_slice()),
-        Recipe::Own(number) => match rule.state.builders.get(*number as usize) {
-            Some(builder) => strs(alloc, builder.action.as_slice()),
-            None => Ok(Vec::new(alloc)),
-        },
-        Recipe::Textfile(..) | Recipe::Substfile(_) => Ok(Vec::new(alloc)),
-        Recipe::Install | Recipe::InstallAs => Ok(Vec::new(alloc)),
-    }
-}
-
-fn one_text(alloc: Global, text: &str) -> Result<Vec<&str>, Memory> {
-    let mut texts = Vec::new(alloc);
-    texts.push(text)?;
-    Ok(texts)
-}
-
-/// The name of a rule's builder: of one of a script's own its number.
-fn builder_of(alloc: Global, declared: &Declaration) -> Result<Text, Memory> {
-    let name = match &declared.recipe {
-        Recipe::Object => "Object",
-        Recipe::Program => "Program",
-        Recipe::StaticLibrary => "StaticLibrary",
-        Recipe::Command(_) => "Command",
-        Recipe::Textfile(..) => "Textfile",
-        Recipe::Substfile(_) => "Substfile",
-        Recipe::Install => "Install",
-        Recipe::InstallAs => "InstallAs",
-        Recipe::Own(number) => {
-            return Ok(Text::new(format!(in alloc; "{number}")?));
-        }
-    };
-    Text::of(alloc, name)
 }

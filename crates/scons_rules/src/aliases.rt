@@ -2,14 +2,16 @@
 ghost use Rattle.std.specs.Prelude.{◌≡◌, ◌++◌, [], ℕ, List, Some, true, map, position, slice_get, option_copied, IfOk, OnOk};
 ghost use Rattle.std.specs.List.{filter_map, flat_map};
 ghost use Rattle.std.specs.Str.{bytes_eq};
+ghost use Rattle.scons_decls.specs.State.{declared_of};
 ghost use Rattle.scons_rules.specs.AliasTable.{names_in, parts_in};
-ghost use Rattle.scons_rules.specs.Aliased.{Leaves, lists_of, steps_of, step_of, path_in, paths_in};
+ghost use Rattle.scons_rules.specs.Aliased.{Leaves, lists_of, steps_of, step_of, path_in, paths_in, file_in};
 ghost use Rattle.scons_rules.specs.Orders.{flattened};
 
 use crate::ignored::Ignored;
 use crate::orders::{Step, flattened};
 use crate::sources::settled;
-use scons_base::{Listing, Memory, Paths, Text};
+use indexmap::IndexSet;
+use scons_base::{Listing, Memory, PathText, Paths, Text};
 use scons_decls::{AliasParts, Declarations, Given};
 use std::alloc::Global;
 use std::marker::Model;
@@ -32,7 +34,7 @@ impl Model for Aliases {
 
 impl Aliases {
     pub(crate) fn new(alloc: Global, state: &Declarations) -> Result<Aliases, Memory>
-        ensures { IfOk result (λ a. a ≡ lists_of (names_in state.now) (parts_in state.now)) }
+        ensures { IfOk result (λ a. a ≡ lists_of (names_in state.now.aliases) (parts_in state.now.aliases)) }
     {
         let mut lists = Vec::with_capacity(alloc, state.aliases.len())?;
         'aliases: for place in 0..state.aliases.len() {
@@ -48,11 +50,15 @@ impl Aliases {
         &self,
         alloc: Global,
         state: &Declarations,
+        dirs: &IndexSet<PathText>,
         place: usize,
-    ) -> Result<Paths, Memory> {
+    ) -> Result<Paths, Memory>
+        ensures { IfOk result (λ p. p ≡ flat_map (file_in dirs.now.keys (declared_of state.now)) (flattened self.now place)) }
+    {
         let mut files = Paths::new(Vec::new(alloc));
-        for member in flattened(alloc, self.lists.as_slice(), place)? {
-            push_file(state, &mut files, member)?;
+        let members = flattened(alloc, self.lists.as_slice(), place)?;
+        for member in members.as_slice() {
+            push_file(state, dirs, &mut files, member)?;
         }
         Ok(files)
     }
@@ -64,7 +70,7 @@ impl Aliases {
         state: &Declarations,
         nodes: &[Given],
     ) -> Result<Paths, Memory>
-        ensures { IfOk result (λ p. p ≡ flat_map (paths_in (names_in state.now) self.now) nodes.now) }
+        ensures { IfOk result (λ p. p ≡ flat_map (paths_in (names_in state.now.aliases) self.now) nodes.now) }
     {
         let mut paths = Paths::new(Vec::new(alloc));
         for node in nodes {
@@ -80,7 +86,7 @@ impl Aliases {
         paths: &mut Paths,
         node: &Given,
     ) -> Result<(), Memory>
-        ensures { OnOk result (paths.new ≡ paths.old ++ paths_in (names_in state.now) self.now node.now) }
+        ensures { OnOk result (paths.new ≡ paths.old ++ paths_in (names_in state.now.aliases) self.now node.now) }
     {
         let Given::Alias(name) = node else {
             return push_path(paths, node);
@@ -104,14 +110,14 @@ impl Aliases {
 
 /// The place of an alias among the declared ones.
 fn place_of(state: &Declarations, name: &Text) -> Option<usize>
-    ensures { result ≡ position (bytes_eq name.now) (names_in state.now) }
+    ensures { result ≡ position (bytes_eq name.now) (names_in state.now.aliases) }
 {
     state.aliases.get_index_of(name.as_str())
 }
 
 /// What the alias at a place stands for.
 fn parts_at(state: &Declarations, place: usize) -> Option<&AliasParts>
-    ensures { option_copied result ≡ slice_get (parts_in state.now) place }
+    ensures { option_copied result ≡ slice_get (parts_in state.now.aliases) place }
 {
     match state.aliases.get_index(place) {
         Some((_, parts)) => Some(parts),
@@ -120,9 +126,16 @@ fn parts_at(state: &Declarations, place: usize) -> Option<&AliasParts>
 }
 
 /// Puts the file that a member stands for behind others, or the directory.
-fn push_file(state: &Declarations, files: &mut Paths, member: &Given) -> Result<(), Memory> {
+fn push_file(
+    state: &Declarations,
+    dirs: &IndexSet<PathText>,
+    files: &mut Paths,
+    member: &Given,
+) -> Result<(), Memory>
+    ensures { OnOk result (files.new ≡ files.old ++ file_in dirs.now.keys (declared_of state.now) member.now) }
+{
     match member {
-        Given::File(path) => files.push(settled(state, path)?),
+        Given::File(path) => files.push(settled(state, dirs, path)?),
         Given::Dir(path) => files.push(path.copy()?),
         Given::Text(_) | Given::Alias(_) => Ok(()),
     }
@@ -143,7 +156,7 @@ fn steps_of(
     state: &Declarations,
     parts: &AliasParts,
 ) -> Result<Listing<Step>, Memory>
-    ensures { IfOk result (λ s. s ≡ steps_of (names_in state.now) parts.now) }
+    ensures { IfOk result (λ s. s ≡ steps_of (names_in state.now.aliases) parts.now) }
 {
     let none = Ignored::new(alloc);
     let ignored = Ignored::of(alloc, parts.ignored.as_slice())?;
@@ -160,7 +173,7 @@ fn push_steps(
     nodes: &[Given],
 ) -> Result<(), Memory>
     ensures { OnOk result ((left : List Given) → Leaves left ignored.now
-        → steps.new ≡ steps.old ++ filter_map (step_of (names_in state.now) left) nodes.now) }
+        → steps.new ≡ steps.old ++ filter_map (step_of (names_in state.now.aliases) left) nodes.now) }
 {
     for node in nodes {
         if let Some(step) = step_of(state, ignored, node)? {
@@ -172,7 +185,7 @@ fn push_steps(
 
 /// The step of a node, unless it is ignored. An alias that isn't declared has no members.
 fn step_of(state: &Declarations, ignored: &Ignored, node: &Given) -> Result<Option<Step>, Memory>
-    ensures { IfOk result (λ s. (left : List Given) → Leaves left ignored.now → s ≡ step_of (names_in state.now) left node.now) }
+    ensures { IfOk result (λ s. (left : List Given) → Leaves left ignored.now → s ≡ step_of (names_in state.now.aliases) left node.now) }
 {
     if ignored.has(node) {
         return Ok(None);

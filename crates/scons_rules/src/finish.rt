@@ -1,108 +1,184 @@
 //! What the graph holds beside rules.
+ghost use Rattle.std.specs.Prelude.{◌≡◌, ◌≢◌, ◌++◌, ℕ, List, Ok, Err, Some, IfOk, IfErr, OnOk, MatchResult, slice_get, option_copied};
+ghost use Rattle.scons_decls.specs.State.{declared_of};
+ghost use Rattle.scons_rules.specs.AliasTable.{names_in};
+ghost use Rattle.scons_rules.specs.Finishing as spec;
+ghost use Rattle.scons_rules.specs.PathGraphs.{graph_by};
+ghost use Rattle.scons_rules.specs.Ruling.{alias_lists};
+
+use crate::aliases::Aliases;
 use crate::fault::RuleReadFault;
 use crate::interning::nodes_of;
 use crate::reading::RuleReading;
 use indexmap::IndexSet;
 use rule_graph::{Graph, Wish};
-use scons_base::{Memory, Text};
+use scons_base::{Memory, PathText, Text};
 use scons_decls::{Asked, Declarations, NameFault, Said, Saying};
 use std::alloc::Global;
+use variant_dirs::Variant;
 
 impl RuleReading {
     /// The graph, with aliases, defaults, help texts and variant directories.
-    pub fn finish(self) -> Result<Graph, RuleReadFault> {
+    pub fn finish(self) -> Result<Graph, RuleReadFault>
+        ensures ok { IfOk result (λ g. spec.finished self.declared (graph_by self.graph) ≡ Ok (graph_by g)) }
+        ensures fault { IfErr result (λ e. e ≢ RuleReadFault.Memory
+            → spec.finished self.declared (graph_by self.graph) ≡ Err e) }
+    {
         let mut reading = self;
         reading.add_rest()?;
         Ok(reading.into_graph())
     }
 
-    fn into_graph(self) -> Graph {
+    fn into_graph(self) -> Graph
+        ensures { result ≡ self.graph }
+    {
         let RuleReading { graph, .. } = self;
         graph
     }
 
-    fn add_rest(&mut self) -> Result<(), RuleReadFault> {
-        self.refuse_unmade()?;
-        self.add_variants()?;
-        self.add_aliases()?;
-        self.add_defaults()?;
-        self.add_helps()
-    }
-
-    /// What is said of a target that no rule makes would count for nothing. That it is always made is no matter then.
-    fn refuse_unmade(&self) -> Result<(), RuleReadFault> {
-        for said in &self.state.said {
-            if !matches!(said.saying, Saying::Always) {
-                refuse_unmade(&self.state, said)?;
-            }
-        }
-        Ok(())
-    }
-
-    fn add_variants(&mut self) -> Result<(), RuleReadFault> {
-        for variant in self.state.locals.variants.as_slice() {
-            let added = self
-                .graph
-                .add_variant(&variant.dir, &variant.source, variant.duplicate);
-            if let Err(fault) = added {
-                return Err(RuleReadFault::from(NameFault::from(fault)));
-            }
-        }
-        Ok(())
-    }
-
-    fn add_aliases(&mut self) -> Result<(), RuleReadFault> {
-        'aliases: for place in 0..self.state.aliases.len() {
-            self.add_alias(place)?;
-        }
-        Ok(())
-    }
-
-    fn add_alias(&mut self, place: usize) -> Result<(), RuleReadFault> {
-        let state = &self.state;
-        let Some((name, _)) = state.aliases.get_index(place) else {
-            return Ok(());
-        };
-        let name = name.clone()?;
-        let paths = self.aliases.files_at(self.alloc, state, place)?;
-        let nodes = nodes_of(self.alloc, &mut self.graph, paths.as_slice())?;
-        self.graph.add_alias(name.as_str(), nodes.as_slice())?;
-        Ok(())
-    }
-
-    /// Adds the defaults, each once.
-    fn add_defaults(&mut self) -> Result<(), RuleReadFault> {
-        let mut met = IndexSet::new(self.alloc);
-        let state = &self.state;
-        for asked in &state.defaults {
-            let wish = wish_of(state, asked)?;
-            if met.insert(word_of(self.alloc, &wish)?)? {
-                self.graph.add_default(wish)?;
-            }
-        }
-        Ok(())
-    }
-
-    fn add_helps(&mut self) -> Result<(), RuleReadFault> {
-        for help in self.state.helps.as_slice() {
-            self.graph.add_help(help.copy()?)?;
-        }
-        Ok(())
+    fn add_rest(&mut self) -> Result<(), RuleReadFault>
+        ensures ok { OnOk result (spec.finished self.old.declared (graph_by self.old.graph) ≡ Ok (graph_by self.new.graph)) }
+        ensures fault { IfErr result (λ e. e ≢ RuleReadFault.Memory
+            → spec.finished self.old.declared (graph_by self.old.graph) ≡ Err e) }
+    {
+        refuse_unmade(&self.state)?;
+        add_variants(&mut self.graph, self.state.locals.variants.as_slice())?;
+        add_aliases(self.alloc, &self.state, &self.dirs, &self.aliases, &mut self.graph)?;
+        add_defaults(self.alloc, &self.state, &mut self.graph)?;
+        Ok(add_helps(&mut self.graph, self.state.helps.as_slice())?)
     }
 }
 
+/// What is said of a target that no rule makes would count for nothing. That it is always made is no matter then.
+fn refuse_unmade(state: &Declarations) -> Result<(), RuleReadFault>
+    ensures ok { OnOk result (spec.have_rules (declared_of state.now) ≡ Ok tt) }
+    ensures fault { IfErr result (λ e. e ≢ RuleReadFault.Memory → spec.have_rules (declared_of state.now) ≡ Err e) }
+{
+    for said in &state.said {
+        refuse_without_rule(state, said)?;
+    }
+    Ok(())
+}
+
 /// Refuses what was said of the first target that no rule makes.
-fn refuse_unmade(state: &Declarations, said: &Said) -> Result<(), RuleReadFault> {
-    for target in said.targets.as_slice() {
-        if !state.made.contains(target) {
+fn refuse_without_rule(state: &Declarations, said: &Said) -> Result<(), RuleReadFault>
+    ensures ok { OnOk result (spec.has_rules (declared_of state.now) said.now ≡ Ok tt) }
+    ensures fault { IfErr result (λ e. e ≢ RuleReadFault.Memory
+        → spec.has_rules (declared_of state.now) said.now ≡ Err e) }
+{
+    if matches!(said.saying, Saying::Always) {
+        return Ok(());
+    }
+    match unmade(state, said.targets.as_slice()) {
+        Some(target) => {
             let fault = NameFault::NoRule(target.copy()?);
-            return Err(RuleReadFault::At(said.place, fault));
+            Err(RuleReadFault::At(said.place, fault))
+        }
+        None => Ok(()),
+    }
+}
+
+/// The first of these that no rule makes.
+fn unmade<'a>(state: &Declarations, targets: &'a [PathText]) -> Option<&'a PathText>
+    ensures { option_copied result ≡ spec.unmade (declared_of state.now) targets.now }
+{
+    for target in targets {
+        if !state.made.contains(target) {
+            return Some(target);
+        }
+    }
+    None
+}
+
+fn add_variants(graph: &mut Graph, variants: &[Variant]) -> Result<(), RuleReadFault>
+    ensures ok { OnOk result (spec.with_variants variants.now (graph_by graph.old) ≡ Ok (graph_by graph.new)) }
+    ensures fault { IfErr result (λ e. e ≢ RuleReadFault.Memory
+        → spec.with_variants variants.now (graph_by graph.old) ≡ Err e) }
+{
+    for variant in variants {
+        add_variant(graph, variant)?;
+    }
+    Ok(())
+}
+
+fn add_variant(graph: &mut Graph, variant: &Variant) -> Result<(), RuleReadFault>
+    ensures ok { OnOk result (spec.with_variant variant.now (graph_by graph.old) ≡ Ok (graph_by graph.new)) }
+    ensures fault { IfErr result (λ e. e ≢ RuleReadFault.Memory
+        → spec.with_variant variant.now (graph_by graph.old) ≡ Err e) }
+{
+    let added = graph.add_variant(&variant.dir, &variant.source, variant.duplicate);
+    match added {
+        Ok(()) => Ok(()),
+        Err(fault) => Err(RuleReadFault::from(NameFault::from(fault))),
+    }
+}
+
+fn add_aliases(
+    alloc: Global,
+    state: &Declarations,
+    dirs: &IndexSet<PathText>,
+    aliases: &Aliases,
+    graph: &mut Graph,
+) -> Result<(), RuleReadFault>
+    ensures { aliases.now ≡ alias_lists (declared_of state.now) → MatchResult result
+        (λ _. spec.with_aliases dirs.now.keys (declared_of state.now) state.now.aliases 0 (graph_by graph.old) ≡ Ok (graph_by graph.new))
+        (λ e. e ≢ RuleReadFault.Memory
+            → spec.with_aliases dirs.now.keys (declared_of state.now) state.now.aliases 0 (graph_by graph.old) ≡ Err e) }
+{
+    'aliases: for place in 0..state.aliases.len() {
+        add_alias(alloc, state, dirs, aliases, graph, place)?;
+    }
+    Ok(())
+}
+
+fn add_alias(
+    alloc: Global,
+    state: &Declarations,
+    dirs: &IndexSet<PathText>,
+    aliases: &Aliases,
+    graph: &mut Graph,
+    place: usize,
+) -> Result<(), RuleReadFault>
+    ensures { aliases.now ≡ alias_lists (declared_of state.now) → (name : List ℕ) → slice_get (names_in state.now.aliases) place ≡ Some name
+        → MatchResult result (λ _. spec.with_alias name (spec.alias_files dirs.now.keys (declared_of state.now) place) (graph_by graph.old) ≡ Ok (graph_by graph.new))
+        (λ e. e ≢ RuleReadFault.Memory
+            → spec.with_alias name (spec.alias_files dirs.now.keys (declared_of state.now) place) (graph_by graph.old) ≡ Err e) }
+{
+    let Some((name, _)) = state.aliases.get_index(place) else {
+        return Ok(());
+    };
+    let files = aliases.files_at(alloc, state, dirs, place)?;
+    let nodes = nodes_of(alloc, graph, files.as_slice())?;
+    Ok(graph.add_alias(name.as_str(), nodes.as_slice())?)
+}
+
+/// Adds the defaults, each once.
+fn add_defaults(alloc: Global, state: &Declarations, graph: &mut Graph) -> Result<(), Memory>
+    ensures { OnOk result (graph.new ≡ record graph.old {
+        defaults = graph.old.defaults ++ spec.wishes (declared_of state.now) }) }
+{
+    let mut met = IndexSet::new(alloc);
+    for asked in &state.defaults {
+        let wish = wish_of(state, asked)?;
+        if met.insert(word_of(alloc, &wish)?)? {
+            graph.add_default(wish)?;
         }
     }
     Ok(())
 }
 
-fn wish_of(state: &Declarations, asked: &Asked) -> Result<Wish, Memory> {
+fn add_helps(graph: &mut Graph, helps: &[Text]) -> Result<(), Memory>
+    ensures { OnOk result (graph.new ≡ record graph.old { helps = graph.old.helps ++ helps.now }) }
+{
+    for help in helps {
+        graph.add_help(help.copy()?)?;
+    }
+    Ok(())
+}
+
+fn wish_of(state: &Declarations, asked: &Asked) -> Result<Wish, Memory>
+    ensures { IfOk result (λ w. w ≡ spec.wish_of (declared_of state.now) asked.now) }
+{
     match asked {
         Asked::Alias(name) => Ok(Wish::Alias(name.copy()?)),
         Asked::Path(path) => Ok(Wish::Path(path.copy()?)),
@@ -114,7 +190,9 @@ fn wish_of(state: &Declarations, asked: &Asked) -> Result<Wish, Memory> {
 }
 
 /// The word that says the same on the command line.
-fn word_of(alloc: Global, wish: &Wish) -> Result<Text, Memory> {
+fn word_of(alloc: Global, wish: &Wish) -> Result<Text, Memory>
+    ensures { IfOk result (λ t. t ≡ spec.word_of wish.now) }
+{
     match wish {
         Wish::Alias(name) => name.copy(),
         Wish::Path(path) => Text::of(alloc, path.as_str()),

@@ -9,7 +9,7 @@ use crate::fault::RuleReadFault;
 use env_subst::Named;
 use indexmap::IndexSet;
 use rule_graph::Graph;
-use scons_base::{Listing, NodeId, PathText};
+use scons_base::{Listing, Memory, NodeId, PathText};
 use std::alloc::Global;
 
 /// Among so few paths one is looked for by going over them.
@@ -67,6 +67,17 @@ pub(crate) fn named_nodes(
     ensures rest { graph.new ≡ record graph.old { nodes = graph.new.nodes } }
 {
     numbers_of(alloc, graph, named)
+}
+
+/// How many paths these nodes have, each counted once.
+pub(crate) fn count_once(alloc: Global, named: &[Named]) -> Result<usize, Memory>
+    ensures { IfOk result (λ n. n ≡ length (each_once (map (λ n. n.path) named.now))) }
+{
+    let mut seen = IndexSet::new(alloc);
+    for one in named {
+        seen.insert(&one.path)?;
+    }
+    Ok(seen.len())
 }
 
 /// The numbers of the paths that these have, each once.

@@ -5,6 +5,7 @@
 //! (`Wanted`), and is told which were found.
 #![tactic(auto)]
 
+mod above;
 mod actions;
 mod adding;
 mod aliases;
@@ -15,6 +16,7 @@ mod interning;
 mod libraries;
 mod line;
 mod locals;
+mod making;
 mod one_rule;
 mod orders;
 mod reading;

@@ -1,10 +1,15 @@
 //! The libraries that a program names.
+ghost use Rattle.std.specs.Prelude.{◌≡◌, ◌≢◌, ◌++◌, ◌∷◌, [], Ok, Err, None, IfOk, IfErr, OnOk, MatchResult, map};
+ghost use Rattle.scons_decls.specs.State.{declared_of};
+ghost use Rattle.scons_rules.specs.Expanding.{expanding};
+ghost use Rattle.scons_rules.specs.Libraries as spec;
+
 use crate::fault::RuleReadFault;
 use crate::one_rule::OneRule;
 use crate::shell::{refuse_for_shell, refuse_path_for_shell};
-use crate::sources::settled;
+use crate::sources::{is_copied, settled};
 use env_subst::LibItem;
-use scons_base::{Listing, PathText, Text};
+use scons_base::{Listing, Memory, PathFault, PathText, Text};
 use scons_decls::Declarations;
 use std::alloc::Global;
 
@@ -23,13 +28,31 @@ pub struct Wanted {
 }
 
 /// The libraries of a program's environment.
-pub(crate) fn wanted_by(rule: &OneRule<'_>) -> Result<Listing<Wanted>, RuleReadFault> {
+pub(crate) fn wanted_by(rule: &OneRule<'_>) -> Result<Listing<Wanted>, RuleReadFault>
+    ensures ok { IfOk result (λ w. (f : spec.Files)
+        → spec.libraries f (expanding rule.now) ≡ Ok (map (spec.found_in f) w)) }
+    ensures fault { IfErr result (λ e. e ≢ RuleReadFault.Memory → (f : spec.Files)
+        → spec.libraries f (expanding rule.now) ≡ Err e) }
+{
     let names = rule.lib_names()?;
     let dirs = rule.lib_dirs()?;
     refuse_for_shell(dirs.as_slice())?;
+    wanted_all(rule, dirs.as_slice(), names.as_slice())
+}
+
+fn wanted_all(
+    rule: &OneRule<'_>,
+    dirs: &[PathText],
+    items: &[LibItem],
+) -> Result<Listing<Wanted>, RuleReadFault>
+    ensures ok { IfOk result (λ w. (f : spec.Files)
+        → spec.each_library f (expanding rule.now) dirs.now items.now ≡ Ok (map (spec.found_in f) w)) }
+    ensures fault { IfErr result (λ e. e ≢ RuleReadFault.Memory → (f : spec.Files)
+        → spec.each_library f (expanding rule.now) dirs.now items.now ≡ Err e) }
+{
     let mut wanted = Listing::empty(rule.alloc);
-    for name in names.as_slice() {
-        wanted.push(wanted_one(rule, dirs.as_slice(), name)?)?;
+    for item in items {
+        wanted.push(wanted_one(rule, dirs, item)?)?;
     }
     Ok(wanted)
 }
@@ -38,92 +61,147 @@ fn wanted_one(
     rule: &OneRule<'_>,
     dirs: &[PathText],
     item: &LibItem,
-) -> Result<Wanted, RuleReadFault> {
+) -> Result<Wanted, RuleReadFault>
+    ensures ok { IfOk result (λ w. (f : spec.Files)
+        → spec.library f (expanding rule.now) dirs.now item.now ≡ Ok (spec.found_in f w)) }
+    ensures fault { IfErr result (λ e. e ≢ RuleReadFault.Memory → (f : spec.Files)
+        → spec.library f (expanding rule.now) dirs.now item.now ≡ Err e) }
+{
     match item {
-        LibItem::Node(path) => library_file(rule.alloc, rule.state, path),
+        LibItem::Node(path) => library_file(rule, path),
         LibItem::Name(name) => {
             let file = file_name(rule, name)?;
-            candidates(rule.alloc, rule.state, dirs, file.as_str())
+            Ok(candidates(rule.alloc, rule.state, dirs, file.as_str())?)
         }
     }
 }
 
 /// A library that is named by its file, which stands in the line.
-fn library_file(
-    alloc: Global,
-    state: &Declarations,
-    path: &PathText,
-) -> Result<Wanted, RuleReadFault> {
-    let file = settled(state, path)?;
+fn library_file(rule: &OneRule<'_>, path: &PathText) -> Result<Wanted, RuleReadFault>
+    ensures ok { IfOk result (λ w. (f : spec.Files)
+        → spec.library_file rule.now.dirs.now.keys (declared_of rule.now.state.now) path.now ≡ Ok (spec.found_in f w)) }
+    ensures fault { IfErr result (λ e. e ≢ RuleReadFault.Memory
+        → spec.library_file rule.now.dirs.now.keys (declared_of rule.now.state.now) path.now ≡ Err e) }
+{
+    let file = settled(rule.state, rule.dirs, path)?;
     refuse_path_for_shell(&file)?;
     Ok(Wanted {
-        asked: Listing::empty(alloc),
+        asked: Listing::empty(rule.alloc),
         known: Some(file),
     })
 }
 
 /// The name of a library's file: prefix, name and suffix.
-fn file_name(rule: &OneRule<'_>, name: &Text) -> Result<Text, RuleReadFault> {
+fn file_name(rule: &OneRule<'_>, name: &Text) -> Result<Text, RuleReadFault>
+    ensures ok { IfOk result (λ t. spec.file_name (expanding rule.now) name.now ≡ Ok t) }
+    ensures fault { IfErr result (λ e. e ≢ RuleReadFault.Memory
+        → spec.file_name (expanding rule.now) name.now ≡ Err e) }
+{
     let prefix = rule.text("$LIBPREFIX")?;
     let suffix = rule.text("$LIBSUFFIX")?;
+    Ok(joined(prefix, name, &suffix)?)
+}
+
+fn joined(prefix: Text, name: &Text, suffix: &Text) -> Result<Text, Memory>
+    ensures { IfOk result (λ t. t ≡ prefix ++ name.now ++ suffix.now) }
+{
     let mut text = prefix.into_string();
     text.push_str(name.as_str())?;
     text.push_str(suffix.as_str())?;
     Ok(Text::new(text))
 }
 
-/// The places of a file, up to the first that is a target.
+/// The places of a file, up to the first that is known without a look.
 fn candidates(
     alloc: Global,
     state: &Declarations,
     dirs: &[PathText],
     file: &str,
-) -> Result<Wanted, RuleReadFault> {
+) -> Result<Wanted, Memory>
+    ensures { IfOk result (λ w. (f : spec.Files)
+        → spec.found_in f w ≡ spec.found_among f (declared_of state.now) file.now dirs.now) }
+{
     let mut wanted = Wanted {
         asked: Listing::empty(alloc),
         known: None,
     };
     for dir in dirs {
-        let Ok(path) = PathText::resolve(alloc, &state.locals.top, dir, file) else {
-            continue;
-        };
-        if state.made.contains(&path) {
-            wanted.known = Some(path);
-            return Ok(wanted);
+        if let Some(path) = place_in(alloc, state, dir, file)? {
+            ask(state, &mut wanted, path)?;
         }
-        if let Some(known) = ask(state, &mut wanted, path)? {
-            wanted.known = Some(known);
+        if wanted.known.is_some() {
             return Ok(wanted);
         }
     }
     Ok(wanted)
 }
 
-/// Asks for a file, and for its source where that would be copied. A source that is a target makes it known.
-fn ask(
+/// The path of a file in a directory, if there may be one.
+fn place_in(
+    alloc: Global,
     state: &Declarations,
-    wanted: &mut Wanted,
-    path: PathText,
-) -> Result<Option<PathText>, RuleReadFault> {
-    let variants = &state.locals.variants;
-    let is_copied = match variants.variant_of(&path) {
-        Some(variant) => variant.duplicate,
-        None => false,
-    };
-    let source = variants.source_of(&state.locals.top, &path)?;
+    dir: &PathText,
+    file: &str,
+) -> Result<Option<PathText>, Memory>
+    ensures { IfOk result (λ p. p ≡ spec.place_in (declared_of state.now) file.now dir.now) }
+{
+    match PathText::resolve(alloc, &state.locals.top, dir, file) {
+        Ok(path) => Ok(Some(path)),
+        Err(PathFault::Memory) => Err(Memory),
+        Err(_) => Ok(None),
+    }
+}
+
+/// Asks for a place of a library, unless it is known without a look.
+fn ask(state: &Declarations, wanted: &mut Wanted, path: PathText) -> Result<(), Memory>
+    requires { wanted.old.known ≡ None }
+    ensures { OnOk result ((f : spec.Files) → spec.found_in f wanted.new
+        ≡ spec.or_at (spec.found_in f wanted.old) (spec.is_known f (declared_of state.now) path) path) }
+{
+    if state.made.contains(&path) {
+        wanted.known = Some(path);
+        return Ok(());
+    }
     wanted.asked.push(AskedFile {
         file: path.copy()?,
         library: path.copy()?,
     })?;
-    match source {
-        Some(source) if is_copied && state.made.contains(&source) => Ok(Some(path)),
-        Some(source) if is_copied => {
-            wanted.asked.push(AskedFile {
-                file: source,
-                library: path,
-            })?;
-            Ok(None)
-        }
-        _ => Ok(None),
+    match copied_from(state, &path)? {
+        Some(source) => ask_source(state, wanted, source, path),
+        None => Ok(()),
     }
+}
+
+/// The source that would be copied to a path, in a variant directory with copies.
+fn copied_from(state: &Declarations, path: &PathText) -> Result<Option<PathText>, Memory>
+    ensures { IfOk result (λ p. p ≡ spec.copied_from (declared_of state.now) path.now) }
+{
+    if !is_copied(state, path) {
+        return Ok(None);
+    }
+    state.locals.variants.source_of(&state.locals.top, path)
+}
+
+/// Asks for the source of a library. One that is a target makes the library known. A copy is never copied further.
+fn ask_source(
+    state: &Declarations,
+    wanted: &mut Wanted,
+    source: PathText,
+    library: PathText,
+) -> Result<(), Memory>
+    requires { wanted.old.known ≡ None }
+    ensures { OnOk result ((f : spec.Files) → spec.found_in f wanted.new
+        ≡ spec.or_at (spec.found_in f wanted.old) (spec.is_source f (declared_of state.now) source) library) }
+{
+    if state.made.contains(&source) {
+        wanted.known = Some(library);
+        return Ok(());
+    }
+    if is_copied(state, &source) {
+        return Ok(());
+    }
+    wanted.asked.push(AskedFile {
+        file: source,
+        library,
+    })
 }

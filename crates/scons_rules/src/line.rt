@@ -1,6 +1,9 @@
 //! The lines of a rule.
-ghost use Rattle.std.specs.Prelude.{◌≡◌, ◌≤◌, ◌++◌, drop, length, IfOk, OnOk};
-ghost use Rattle.scons_rules.specs.Lines.{is_mark, marks_len, line_of, lines_behind};
+ghost use Rattle.std.specs.Prelude.{◌≡◌, ◌≢◌, ◌≤◌, ◌++◌, Ok, Err, drop, length, IfOk, IfErr, OnOk};
+ghost use Rattle.scons_rules.specs.ActionsLeft.{texts_in};
+ghost use Rattle.scons_rules.specs.Expanding.{expanding, command_of};
+ghost use Rattle.scons_rules.specs.Lines.{is_mark, marks_len, line_of, lines_behind, with_command, lines_by};
+ghost use Rattle.scons_rules.specs.Steps.{each};
 
 use crate::fault::RuleReadFault;
 use crate::one_rule::OneRule;
@@ -17,17 +20,32 @@ pub(crate) struct RuleLines {
 }
 
 /// The expanded lines of these texts.
-pub(crate) fn lines_of(rule: &OneRule<'_>, texts: &[&str]) -> Result<RuleLines, RuleReadFault> {
+pub(crate) fn lines_of(rule: &OneRule<'_>, texts: &[&str]) -> Result<RuleLines, RuleReadFault>
+    ensures ok { IfOk result (λ l. lines_by (expanding rule.now) (texts_in texts.now) ≡ Ok l) }
+    ensures fault { IfErr result (λ e. e ≢ RuleReadFault.Memory
+        → lines_by (expanding rule.now) (texts_in texts.now) ≡ Err e) }
+{
     let mut lines = RuleLines {
         lines: Listing::empty(rule.alloc),
         signed: Texts::new(Vec::new(rule.alloc)),
     };
     for text in texts {
-        let CommandLines { plain, signed } = rule.lines(text)?;
-        add_signed(&mut lines.signed, signed)?;
-        add_lines(rule.alloc, &mut lines.lines, plain)?;
+        let command = rule.lines(text)?;
+        add_command(rule.alloc, &mut lines, command)?;
     }
     Ok(lines)
+}
+
+fn add_command(
+    alloc: Global,
+    lines: &mut RuleLines,
+    command: CommandLines,
+) -> Result<(), Memory>
+    ensures { OnOk result (lines.new ≡ with_command lines.old command) }
+{
+    let CommandLines { plain, signed } = command;
+    add_signed(&mut lines.signed, signed)?;
+    add_lines(alloc, &mut lines.lines, plain)
 }
 
 fn add_signed(signed: &mut Texts, more: Texts) -> Result<(), Memory>

@@ -40,7 +40,7 @@ impl SaidOf {
         state: &Declarations,
         aliases: &Aliases,
     ) -> Result<SaidOf, Memory>
-        ensures { IfOk result (Tells (spoken_in (names_in state.now) aliases.now state.now.said.items)) }
+        ensures { IfOk result (Tells (spoken_in (names_in state.now.aliases) aliases.now state.now.said.items)) }
     {
         let mut said = SaidOf {
             sentences: Vec::new(alloc),

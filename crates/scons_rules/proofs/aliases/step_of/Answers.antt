@@ -7,7 +7,7 @@ use Rattle.scons_rules.proofs.aliases.step_of.Goals as goal
 
 pub returns-then-has : goal.returns-then-has
 returns-then-has c = λ left leaves.
-    sym (step_left (names_in c.args.state.now) left c.args.ignored.now c.args.node.now leaves (sym c.has.ensures ∙ c.if-has.true))
+    sym (step_left (names_in c.args.state.now.aliases) left c.args.ignored.now c.args.node.now leaves (sym c.has.ensures ∙ c.if-has.true))
 
 pub returns-in-Some : goal.returns-in-Some
 returns-in-Some c = λ left leaves. ?

@@ -4,4 +4,4 @@ use Rattle.scons_rules.specs.Sayings.{Tells, spoken_in}
 use Rattle.scons_rules.proofs.said.SaidOf.new.Given as goal
 
 abbrev pub invariant-loop-one : goal.invariant-loop-one
-invariant-loop-one l = Tells (spoken_in (names_in l.state) l.aliases (take l.one-index l.state.said.items)) l.said
+invariant-loop-one l = Tells (spoken_in (names_in l.state.aliases) l.aliases (take l.one-index l.state.said.items)) l.said

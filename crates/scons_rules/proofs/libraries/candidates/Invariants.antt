@@ -1,0 +1,10 @@
+use Rattle.std.proofs.Common.{◌≡◌, ◌×◌, None, drop, take}
+use Rattle.scons_decls.specs.State.{declared_of}
+use Rattle.scons_rules.specs.Libraries.{Files, found_among, found_in}
+use Rattle.scons_rules.proofs.libraries.candidates.Given as goal
+
+abbrev pub invariant-loop-dir : goal.invariant-loop-dir
+invariant-loop-dir l = record {
+  none : l.wanted.known ≡ None;
+  found : (f : Files) → found_in f l.wanted ≡ found_among f (declared_of l.state) l.file (take l.dir-index l.dirs);
+}
