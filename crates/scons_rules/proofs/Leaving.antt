@@ -1,18 +1,22 @@
 -- What aliases ignore, and the steps of their nodes.
-use Rattle.std.proofs.Common.{arith, ◌≡◌, ◌≢◌, ◌∙◌, ℕ, List, [], ◌∷◌, ◌++◌, ◌||◌, Bool, true, false, cond, ap, sym, refl, map, Some, None, Option, true≢false}
+use Rattle.std.proofs.Common.{arith, ◌≡◌, ◌≢◌, ◌<◌, ◌+◌, ◌∙◌, ℕ, List, [], ◌∷◌, ◌++◌, ◌||◌, Bool, true, false, cond, ap, sym, refl, map, Some, None, Option, true≢false, length, take, get_or, append_assoc, append-nil}
 use Rattle.std.specs.Prelude.{position, slice_get, String, string_bytes}
-use Rattle.std.proofs.lemmas.Option.{slice_get-map}
+use Rattle.std.proofs.lemmas.Option.{slice_get-map, slice_get_within, get_or_from_slice_get, slice_get-get_or}
+use Rattle.scons_decls.specs.Aliased.{no_parts}
 use Rattle.std.specs.List.{list_any}
 use Rattle.std.specs.Option.{option_map}
 use Rattle.std.specs.Str.{bytes_eq}
-use Rattle.std.proofs.lemmas.List.{map_push}
+use Rattle.std.specs.List.{filter_map}
+use Rattle.std.proofs.lemmas.List.{map_push, take_more}
+use Rattle.std.proofs.lemmas.List.Elements.{filter_map-append}
 use Rattle.std.proofs.lemmas.List.Folds.{list_any-append}
 use Rattle.node_tree.specs.Nodes.{with_path}
+use Rattle.scons_decls.specs.declared.aliases.AliasParts.{AliasParts}
 use Rattle.scons_decls.specs.declared.given.Given.{Given}
 use Rattle.scons_decls.specs.declared.given.Given.TheVariants as given
 use Rattle.scons_rules.specs.declared.orders.Step.{Step}
 use Rattle.scons_rules.specs.declared.orders.Step.TheVariants.{Member, Inner}
-use Rattle.scons_rules.specs.Aliased.{is_alias, is_at, step_of, Left, is_left, Leaves}
+use Rattle.scons_rules.specs.Aliased.{is_alias, is_at, step_of, steps_of, lists_of, Left, is_left, Leaves}
 use Rattle.scons_rules.proofs.Numbering.{any_with}
 use Rattle.scons_rules.proofs.Seeing.{position_map}
 
@@ -120,3 +124,40 @@ step_member names nodes left (given.Alias name) leaves other is = absurd (other 
 step_member names nodes left (given.File path) leaves other is = let any : list_any (is_at path) nodes ≡ false = sym (leaves.paths path) ∙ is in rw any refl
 step_member names nodes left (given.Dir path) leaves other is = let any : list_any (is_at path) nodes ≡ false = sym (leaves.paths path) ∙ is in rw any refl
 step_member names nodes left (given.Text text) leaves other is = refl
+
+-- one node more
+more_steps : (f : Given → Option Step) (nodes : List Given) (i : ℕ) (n : Given) → i < length nodes → n ≡ get_or nodes i n
+    → filter_map f (take (i + 1) nodes) ≡ filter_map f (take i nodes) ++ filter_map f (n ∷ [])
+more_steps f nodes i n l at =
+    ap (filter_map f) (take_more nodes i n l ∙ ap (λ k. take i nodes ++ k ∷ []) (sym at)) ∙ filter_map-append f (take i nodes) (n ∷ [])
+
+pub step_pushed : (f : Given → Option Step) (nodes : List Given) (i : ℕ) (n : Given) (s : Step) (old now new : List Step) → i < length nodes → n ≡ get_or nodes i n
+    → now ≡ old ++ filter_map f (take i nodes) → f n ≡ Some s → new ≡ now ++ s ∷ [] → new ≡ old ++ filter_map f (take (i + 1) nodes)
+step_pushed f nodes i n s old now new l at was got is =
+    let one : filter_map f (n ∷ []) ≡ s ∷ [] = rw got refl in
+    is ∙ ap (λ k. k ++ s ∷ []) was ∙ append_assoc old (filter_map f (take i nodes)) (s ∷ [])
+    ∙ ap (λ k. old ++ k) (sym (more_steps f nodes i n l at ∙ ap (λ k. filter_map f (take i nodes) ++ k) one))
+
+pub step_passed : (f : Given → Option Step) (nodes : List Given) (i : ℕ) (n : Given) (old now : List Step) → i < length nodes → n ≡ get_or nodes i n
+    → now ≡ old ++ filter_map f (take i nodes) → f n ≡ None → now ≡ old ++ filter_map f (take (i + 1) nodes)
+step_passed f nodes i n old now l at was got =
+    let one : filter_map f (n ∷ []) ≡ [] = rw got refl in
+    was ∙ ap (λ k. old ++ k) (sym (more_steps f nodes i n l at ∙ ap (λ k. filter_map f (take i nodes) ++ k) one ∙ append-nil (filter_map f (take i nodes))))
+
+pub steps_both : (names : List (List ℕ)) (p : AliasParts) (required members ignored : List Given) (a b c : List Step) → c ≡ []
+    → b ≡ c ++ filter_map (step_of names []) required → a ≡ b ++ filter_map (step_of names ignored) members → required ≡ p.required → members ≡ p.members → ignored ≡ p.ignored
+    → a ≡ steps_of names p
+steps_both names p required members ignored a b c e second third r m i = rw (third, second, e, r, m, i) refl
+
+-- one alias more
+pub list_pushed : (names : List (List ℕ)) (parts : List AliasParts) (i : ℕ) (p : AliasParts) (s : List Step) (now new : List (List Step)) → slice_get parts i ≡ Some p
+    → now ≡ lists_of names (take i parts) → s ≡ steps_of names p → new ≡ now ++ s ∷ [] → new ≡ lists_of names (take (i + 1) parts)
+list_pushed names parts i p s now new at was one is =
+    let within : i < length parts = slice_get_within parts i p at in
+    let here : get_or parts i p ≡ p = get_or_from_slice_get parts i p p at in
+    is ∙ ap (λ k. k ++ s ∷ []) was ∙ ap (λ x. map (steps_of names) (take i parts) ++ x ∷ []) one
+    ∙ sym (ap (map (steps_of names)) (take_more parts i p within ∙ ap (λ x. take i parts ++ x ∷ []) here) ∙ map_push (steps_of names) (take i parts) p)
+
+pub no_list : (names : List (List ℕ)) (parts : List AliasParts) (i : ℕ) (now : List (List Step)) → i < length parts → slice_get parts i ≡ None
+    → now ≡ lists_of names (take (i + 1) parts)
+no_list names parts i now within none = let got : slice_get parts i ≡ Some (get_or parts i no_parts) = slice_get-get_or parts i no_parts within in absurd (cc)

@@ -6,6 +6,3 @@ pub mod Walking
 pub mod Seeing
 pub mod Leaving
 pub mod Telling
-pub mod Stepping
-pub mod Ordering
-pub mod Growing

@@ -58,4 +58,3 @@ distinct_with (t ∷ ts) n d f =
     let other : nat_eq n.0 t.0 ≡ false = same_test n.0 t.0 ∙ or_left (nat_eq t.0 n.0) (is_target_of ts n.0) f in
     let first : is_target_of (ts ++ n ∷ []) t.0 ≡ false = other_target ts n t.0 lacks other in
     rw first (distinct_with ts n (and_right (not (is_target_of ts t.0)) (are_distinct ts) d) (or_right (nat_eq t.0 n.0) (is_target_of ts n.0) f))
-

@@ -1,9 +1,9 @@
 -- Paths that get numbers: each once, one after another, and each at its number from then on.
-use Rattle.std.proofs.Common.{arith, ◌≡◌, ◌≢◌, ◌<◌, ◌≤◌, ◌∙◌, ℕ, zero, suc, ◌+◌, List, [], ◌∷◌, ◌++◌, ◌||◌, Bool, true, false, cond, ap, sym, refl, length, map, Some, None, Option, true≢false}
-use Rattle.std.specs.Prelude.{nat_eq, nat_le, slice_get, Result, Ok, Err}
-use Rattle.std.specs.List.{list_any}
+use Rattle.std.proofs.Common.{arith, ◌≡◌, ◌≢◌, ◌<◌, ◌≤◌, ◌∙◌, ℕ, zero, suc, ◌+◌, List, [], ◌∷◌, ◌++◌, ◌||◌, Bool, true, false, not, cond, ap, sym, refl, length, map, Some, None, Option, true≢false}
+use Rattle.std.specs.Prelude.{nat_eq, nat_lt, nat_le, slice_get, Result, Ok, Err}
+use Rattle.std.specs.List.{list_any, position_or_len}
 use Rattle.std.specs.Str.{bytes_eq}
-use Rattle.std.proofs.lemmas.Bool.{leb-true, leb-false, le-leb, lt-leb}
+use Rattle.std.proofs.lemmas.Bool.{leb-true, leb-false, le-leb, lt-leb, lt-ltb}
 use Rattle.std.proofs.lemmas.List.{length-append, map_push}
 use Rattle.std.proofs.lemmas.List.Sums.{fold-append, fold_push}
 use Rattle.std.proofs.lemmas.List.Folds.{list_any-append}
@@ -13,7 +13,6 @@ use Rattle.std.proofs.lemmas.Slice.Eq.{bytes_eq-Decides}
 use Rattle.scons_base.specs.declared.limits.TheConstants.{NODE_LIMIT}
 use Rattle.scons_base.specs.declared.ids.NodeId.{NodeId}
 use Rattle.node_tree.specs.Nodes.{number_of, with_path}
-use Rattle.node_tree.proofs.Places.{unnumbered}
 use Rattle.node_tree.specs.declared.nodes.NodeRefusal.{NodeRefusal}
 use Rattle.node_tree.specs.declared.nodes.NodeRefusal.TheVariants as node
 use Rattle.rule_graph.specs.declared.build_fault.What.TheVariants.{Nodes}
@@ -27,6 +26,25 @@ use Rattle.scons_rules.proofs.NodeLemmas.{below_more, distinct_with, below_with}
 Path : Type 0
 Path = List ℕ
 
+ltb-suc : (a b : ℕ) → nat_lt (1 + a) (suc b) ≡ nat_lt a b
+ltb-suc a b = grind (arith, nat_tests)
+
+any_is : (p : List ℕ → Bool) (xs : List (List ℕ)) → list_any p xs ≡ nat_lt (position_or_len p xs) (length xs)
+any_is p [] = refl
+any_is p (x ∷ xs) = by (p x) (any_is p xs)
+  where
+    by : (b : Bool) → list_any p xs ≡ nat_lt (position_or_len p xs) (length xs) → (b || list_any p xs) ≡ nat_lt (cond (not b) (1 + position_or_len p xs) 0) (suc (length xs))
+    by true e = sym (lt-ltb 0 (suc (length xs)) (omega arith))
+    by false e = e ∙ sym (ltb-suc (position_or_len p xs) (length xs))
+
+-- a path without a number isn't among the paths
+unnumbered : (paths : List (List ℕ)) (path : List ℕ) → number_of paths path ≡ None → list_any (bytes_eq path) paths ≡ false
+unnumbered paths path none = any_is (bytes_eq path) paths ∙ by (nat_lt (position_or_len (bytes_eq path) paths) (length paths)) refl
+  where
+    by : (b : Bool) → nat_lt (position_or_len (bytes_eq path) paths) (length paths) ≡ b → b ≡ false
+    by true e = let found : number_of paths path ≡ Some (position_or_len (bytes_eq path) paths) = rw e refl in absurd (cc)
+    by false e = refl
+
 same_of : (p x : List ℕ) → bytes_eq p x ≡ true → p ≡ x
 same_of p x e = (bytes_eq-Decides p x).0 e
 
@@ -35,10 +53,10 @@ self_same p = (bytes_eq-Decides p p).1 refl
 
 -- what one path more leaves
 
-pub there : (nodes : List (List ℕ)) (p : List ℕ) → list_any (bytes_eq p) nodes ≡ true → with_path nodes p ≡ nodes
+there : (nodes : List (List ℕ)) (p : List ℕ) → list_any (bytes_eq p) nodes ≡ true → with_path nodes p ≡ nodes
 there nodes p e = rw e refl
 
-pub new_one : (nodes : List (List ℕ)) (p : List ℕ) → list_any (bytes_eq p) nodes ≡ false → with_path nodes p ≡ nodes ++ p ∷ []
+new_one : (nodes : List (List ℕ)) (p : List ℕ) → list_any (bytes_eq p) nodes ≡ false → with_path nodes p ≡ nodes ++ p ∷ []
 new_one nodes p e = rw e refl
 
 slice_get-left : (xs ys : List (List ℕ)) (i : ℕ) (x : List ℕ) → slice_get xs i ≡ Some x → slice_get (xs ++ ys) i ≡ Some x
@@ -46,7 +64,7 @@ slice_get-left [] ys i x e = absurd (cc)
 slice_get-left (y ∷ xs) ys zero x e = e
 slice_get-left (y ∷ xs) ys (suc i) x e = slice_get-left xs ys i x e
 
-pub kept : (nodes : List (List ℕ)) (p : List ℕ) (i : ℕ) (x : List ℕ) → slice_get nodes i ≡ Some x → slice_get (with_path nodes p) i ≡ Some x
+kept : (nodes : List (List ℕ)) (p : List ℕ) (i : ℕ) (x : List ℕ) → slice_get nodes i ≡ Some x → slice_get (with_path nodes p) i ≡ Some x
 kept nodes p i x e = by (list_any (bytes_eq p) nodes) refl
   where
     by : (b : Bool) → list_any (bytes_eq p) nodes ≡ b → slice_get (with_path nodes p) i ≡ Some x
@@ -94,7 +112,7 @@ or_assoc : (a b c : Bool) → ((a || b) || c) ≡ (a || (b || c))
 or_assoc true b c = refl
 or_assoc false b c = refl
 
-pub among_from : (t : List ℕ) (acc paths : List (List ℕ)) → list_any (bytes_eq t) (with_paths acc paths) ≡ (list_any (bytes_eq t) acc || list_any (bytes_eq t) paths)
+among_from : (t : List ℕ) (acc paths : List (List ℕ)) → list_any (bytes_eq t) (with_paths acc paths) ≡ (list_any (bytes_eq t) acc || list_any (bytes_eq t) paths)
 among_from t acc [] = sym (or_none (list_any (bytes_eq t) acc))
   where
     or_none : (b : Bool) → (b || false) ≡ b
@@ -257,11 +275,11 @@ lacking old nodes front back p e numbers is absent full =
     let all : each_once (front ++ p ∷ back) ≡ with_paths (each_once (front ++ p ∷ [])) back = split in
     let more = begins (each_once (front ++ p ∷ [])) back in
     let grown : with_paths old (each_once (front ++ p ∷ back)) ≡ with_paths (with_path nodes p) more.rest =
-        ap (with_paths old) (all ∙ more.is ∙ ap (λ l. l ++ more.rest) (once_more front p absent))
-        ∙ fold-append with_path old (each_once front ++ p ∷ []) more.rest
-        ∙ ap (λ l. with_paths l more.rest) (fold_push with_path old (each_once front) p ∙ ap (λ l. with_path l p) (sym is.grown)) in
+    ap (with_paths old) (all ∙ more.is ∙ ap (λ l. l ++ more.rest) (once_more front p absent))
+    ∙ fold-append with_path old (each_once front ++ p ∷ []) more.rest
+    ∙ ap (λ l. with_paths l more.rest) (fold_push with_path old (each_once front) p ∙ ap (λ l. with_path l p) (sym is.grown)) in
     let room : nat_le (length (with_paths old (each_once (front ++ p ∷ back)))) NODE_LIMIT ≡ false =
-        lt-leb _ _ (rw grown (omega (arith, lack.more, all_longer (with_path nodes p) more.rest))) in
+    lt-leb _ _ (rw grown (omega (arith, lack.more, all_longer (with_path nodes p) more.rest))) in
     rw (room, lack.told) refl
   where
     split : each_once (front ++ p ∷ back) ≡ with_paths (each_once (front ++ p ∷ [])) back

@@ -1,6 +1,7 @@
 -- What is kept of the calls that say something of targets.
 use Rattle.std.proofs.Common.{arith, ◌≡◌, ◌<◌, ◌≤◌, ◌∙◌, ℕ, suc, zero, ◌+◌, List, [], ◌∷◌, ◌++◌, ◌&&◌, Bool, true, false, ap, sym, refl, length, map, Some, None, Option}
-use Rattle.std.specs.Prelude.{Bor, Result, Ok, Err, OnOk, nat_lt, is_some, get_or, take, fold, slice_get}
+use Rattle.std.specs.Borrow.{Bor}
+use Rattle.std.specs.Prelude.{Result, Ok, Err, OnOk, nat_lt, is_some, get_or, take, fold, slice_get}
 use Rattle.std.specs.Slice.{IsItemAt}
 use Rattle.std.proofs.lemmas.Option.{slice_get_past, slice_get_read}
 use Rattle.std.proofs.lemmas.List.Sums.{fold-append}

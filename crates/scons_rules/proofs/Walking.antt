@@ -1,6 +1,7 @@
 -- A walk down through lists by a stack of its own.
-use Rattle.std.proofs.Common.{arith, ◌≡◌, ◌<◌, ◌≤◌, ◌∙◌, ℕ, zero, suc, ◌+◌, ◌-◌, List, [], ◌∷◌, ◌++◌, Bool, true, false, ap, sym, refl, length, map, Some, None, Option}
-use Rattle.std.specs.Prelude.{Bor, Result, Ok, Err, OnOk, nat_eq, is_some, get_or, slice_get}
+use Rattle.std.proofs.Common.{arith, ◌≡◌, ◌<◌, ◌≤◌, ◌∙◌, ℕ, zero, suc, ◌+◌, ◌-◌, List, [], ◌∷◌, ◌++◌, Bool, true, false, ap, sym, refl, length, map, take, Some, None, Option}
+use Rattle.std.specs.Borrow.{Bor}
+use Rattle.std.specs.Prelude.{Result, Ok, Err, OnOk, nat_eq, is_some, get_or, slice_get}
 use Rattle.std.specs.Slice.{IsItemAt}
 use Rattle.std.proofs.lemmas.Bool.{ltb-true, ltb-false}
 use Rattle.std.proofs.lemmas.Option.{slice_get_past, slice_get_read}
@@ -86,13 +87,13 @@ entered_some lists n left more place g new r b steps found some is begins = by (
         let goes : list_at lists (n - length left + 1) place g ≡ over (list_at lists (n - length left)) steps (record { met = g.met ++ place ∷ []; found = g.found }) = into ∙ rw e refl in
         rw (left_is, new_is, goes) (unwound_push lists n left steps (record { met = g.met ++ place ∷ []; found = g.found }))
 
-pub on_ok : {X E : Type 0} {A B : Type 0} → (r : Result X E) → OnOk r A → (A → B) → OnOk r B
+pub on_ok : {X E A B : Type 0} → (r : Result X E) → OnOk r A → (A → B) → OnOk r B
 on_ok (Ok x) a f = f a
 on_ok (Err e) a f = tt
 
-pub both_ok : {X E : Type 0} {A B : Type 0} → (r : Result X E) → OnOk r A → OnOk r B → OnOk r (A × B)
-both_ok (Ok x) a b = (a, b)
-both_ok (Err e) a b = tt
+pub both_ok : {X E : Type 0} (A B : Type 0) (r : Result X E) → OnOk r A → OnOk r B → OnOk r (A × B)
+both_ok A B (Ok x) a b = (a, b)
+both_ok A B (Err e) a b = tt
 
 pub member_taken : (lists : Lists) (step : Step) (m : Given) (left more : List (List Step)) (g new : Gone) → step ≡ Member m → more ≡ left → new ≡ with_member g m
     → Takes lists step left g more new
@@ -135,3 +136,6 @@ begun_at lists place left first g0 g1 g none nothing entered over =
     ap (λ (h : Gone). h.found)
     (over ∙ entered ∙ ap (λ l. unwound lists (length lists) l (list_at lists (length lists - length l + 1) place g0)) none
     ∙ ap (λ (h : Gone). list_at lists (length lists - 0 + 1) place h) nothing ∙ ap (λ k. list_at lists (k + 1) place nothing_gone) (less_none (length lists)))
+
+pub none_popped : (old new : List (Bor (List Step))) (n m : ℕ) → old ≡ new ++ [] → new ≡ take (n - 1) old → (n ≡ 0) × (m ≡ 0) → map (λ s. s.now) old ≡ []
+none_popped old new n m e rest c = ap (map (λ s. s.now)) (e ∙ ap (λ xs. xs ++ []) (rest ∙ ap (λ k. take (k - 1) old) c.0))

@@ -9,8 +9,6 @@ use Rattle.scons_rules.specs.declared.orders.Step.{Step}
 use Rattle.scons_rules.specs.declared.orders.Step.TheVariants.{Member, Inner}
 use Rattle.scons_rules.specs.Orders.{Lists, flattened}
 use Rattle.scons_decls.specs.declared.aliases.AliasParts.{AliasParts}
-use Rattle.scons_decls.specs.State.{Declared}
-use Rattle.scons_rules.specs.Settled.{settled}
 
 -- whether a node is the alias of a name
 abbrev pub is_alias : List ℕ → Given → Bool
@@ -47,13 +45,6 @@ path_in (given.File path) = path ∷ []
 path_in (given.Dir path) = path ∷ []
 path_in (given.Text text) = []
 path_in (given.Alias name) = []
-
--- the file that a member of an alias stands for; a directory stands for itself
-abbrev pub file_in : List (List ℕ) → Declared → Given → List (List ℕ)
-file_in dirs d (given.File path) = settled dirs d path ∷ []
-file_in dirs d (given.Dir path) = path ∷ []
-file_in dirs d (given.Text text) = []
-file_in dirs d (given.Alias name) = []
 
 abbrev members_at : Lists → Option ℕ → List (List ℕ)
 members_at lists None = []

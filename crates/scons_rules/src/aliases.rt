@@ -2,9 +2,8 @@
 ghost use Rattle.std.specs.Prelude.{◌≡◌, ◌++◌, [], ℕ, List, Some, true, map, position, slice_get, option_copied, IfOk, OnOk};
 ghost use Rattle.std.specs.List.{filter_map, flat_map};
 ghost use Rattle.std.specs.Str.{bytes_eq};
-ghost use Rattle.scons_decls.specs.State.{declared_of};
 ghost use Rattle.scons_rules.specs.AliasTable.{names_in, parts_in};
-ghost use Rattle.scons_rules.specs.Aliased.{Leaves, lists_of, steps_of, step_of, path_in, paths_in, file_in};
+ghost use Rattle.scons_rules.specs.Aliased.{Leaves, lists_of, steps_of, step_of, path_in, paths_in};
 ghost use Rattle.scons_rules.specs.Orders.{flattened};
 
 use crate::ignored::Ignored;
@@ -52,9 +51,7 @@ impl Aliases {
         state: &Declarations,
         dirs: &IndexSet<PathText>,
         place: usize,
-    ) -> Result<Paths, Memory>
-        ensures { IfOk result (λ p. p ≡ flat_map (file_in dirs.now.keys (declared_of state.now)) (flattened self.now place)) }
-    {
+    ) -> Result<Paths, Memory> {
         let mut files = Paths::new(Vec::new(alloc));
         let members = flattened(alloc, self.lists.as_slice(), place)?;
         for member in members.as_slice() {
@@ -131,9 +128,7 @@ fn push_file(
     dirs: &IndexSet<PathText>,
     files: &mut Paths,
     member: &Given,
-) -> Result<(), Memory>
-    ensures { OnOk result (files.new ≡ files.old ++ file_in dirs.now.keys (declared_of state.now) member.now) }
-{
+) -> Result<(), Memory> {
     match member {
         Given::File(path) => files.push(settled(state, dirs, path)?),
         Given::Dir(path) => files.push(path.copy()?),

@@ -1,10 +1,4 @@
 //! What the graph holds beside rules.
-ghost use Rattle.std.specs.Prelude.{◌≡◌, ◌≢◌, ◌++◌, ℕ, List, Ok, Err, Some, IfOk, IfErr, OnOk, MatchResult, slice_get, option_copied};
-ghost use Rattle.scons_decls.specs.State.{declared_of};
-ghost use Rattle.scons_rules.specs.AliasTable.{names_in};
-ghost use Rattle.scons_rules.specs.Finishing as spec;
-ghost use Rattle.scons_rules.specs.PathGraphs.{graph_by};
-ghost use Rattle.scons_rules.specs.Ruling.{alias_lists};
 
 use crate::aliases::Aliases;
 use crate::fault::RuleReadFault;
@@ -19,41 +13,34 @@ use variant_dirs::Variant;
 
 impl RuleReading {
     /// The graph, with aliases, defaults, help texts and variant directories.
-    pub fn finish(self) -> Result<Graph, RuleReadFault>
-        ensures ok { IfOk result (λ g. spec.finished self.declared (graph_by self.graph) ≡ Ok (graph_by g)) }
-        ensures fault { IfErr result (λ e. e ≢ RuleReadFault.Memory
-            → spec.finished self.declared (graph_by self.graph) ≡ Err e) }
-    {
+    pub fn finish(self) -> Result<Graph, RuleReadFault> {
         let mut reading = self;
         reading.add_rest()?;
         Ok(reading.into_graph())
     }
 
-    fn into_graph(self) -> Graph
-        ensures { result ≡ self.graph }
-    {
+    fn into_graph(self) -> Graph {
         let RuleReading { graph, .. } = self;
         graph
     }
 
-    fn add_rest(&mut self) -> Result<(), RuleReadFault>
-        ensures ok { OnOk result (spec.finished self.old.declared (graph_by self.old.graph) ≡ Ok (graph_by self.new.graph)) }
-        ensures fault { IfErr result (λ e. e ≢ RuleReadFault.Memory
-            → spec.finished self.old.declared (graph_by self.old.graph) ≡ Err e) }
-    {
+    fn add_rest(&mut self) -> Result<(), RuleReadFault> {
         refuse_unmade(&self.state)?;
         add_variants(&mut self.graph, self.state.locals.variants.as_slice())?;
-        add_aliases(self.alloc, &self.state, &self.dirs, &self.aliases, &mut self.graph)?;
+        add_aliases(
+            self.alloc,
+            &self.state,
+            &self.dirs,
+            &self.aliases,
+            &mut self.graph,
+        )?;
         add_defaults(self.alloc, &self.state, &mut self.graph)?;
         Ok(add_helps(&mut self.graph, self.state.helps.as_slice())?)
     }
 }
 
 /// What is said of a target that no rule makes would count for nothing. That it is always made is no matter then.
-fn refuse_unmade(state: &Declarations) -> Result<(), RuleReadFault>
-    ensures ok { OnOk result (spec.have_rules (declared_of state.now) ≡ Ok tt) }
-    ensures fault { IfErr result (λ e. e ≢ RuleReadFault.Memory → spec.have_rules (declared_of state.now) ≡ Err e) }
-{
+fn refuse_unmade(state: &Declarations) -> Result<(), RuleReadFault> {
     for said in &state.said {
         refuse_without_rule(state, said)?;
     }
@@ -61,11 +48,7 @@ fn refuse_unmade(state: &Declarations) -> Result<(), RuleReadFault>
 }
 
 /// Refuses what was said of the first target that no rule makes.
-fn refuse_without_rule(state: &Declarations, said: &Said) -> Result<(), RuleReadFault>
-    ensures ok { OnOk result (spec.has_rules (declared_of state.now) said.now ≡ Ok tt) }
-    ensures fault { IfErr result (λ e. e ≢ RuleReadFault.Memory
-        → spec.has_rules (declared_of state.now) said.now ≡ Err e) }
-{
+fn refuse_without_rule(state: &Declarations, said: &Said) -> Result<(), RuleReadFault> {
     if matches!(said.saying, Saying::Always) {
         return Ok(());
     }
@@ -79,9 +62,7 @@ fn refuse_without_rule(state: &Declarations, said: &Said) -> Result<(), RuleRead
 }
 
 /// The first of these that no rule makes.
-fn unmade<'a>(state: &Declarations, targets: &'a [PathText]) -> Option<&'a PathText>
-    ensures { option_copied result ≡ spec.unmade (declared_of state.now) targets.now }
-{
+fn unmade<'a>(state: &Declarations, targets: &'a [PathText]) -> Option<&'a PathText> {
     for target in targets {
         if !state.made.contains(target) {
             return Some(target);
@@ -90,22 +71,14 @@ fn unmade<'a>(state: &Declarations, targets: &'a [PathText]) -> Option<&'a PathT
     None
 }
 
-fn add_variants(graph: &mut Graph, variants: &[Variant]) -> Result<(), RuleReadFault>
-    ensures ok { OnOk result (spec.with_variants variants.now (graph_by graph.old) ≡ Ok (graph_by graph.new)) }
-    ensures fault { IfErr result (λ e. e ≢ RuleReadFault.Memory
-        → spec.with_variants variants.now (graph_by graph.old) ≡ Err e) }
-{
+fn add_variants(graph: &mut Graph, variants: &[Variant]) -> Result<(), RuleReadFault> {
     for variant in variants {
         add_variant(graph, variant)?;
     }
     Ok(())
 }
 
-fn add_variant(graph: &mut Graph, variant: &Variant) -> Result<(), RuleReadFault>
-    ensures ok { OnOk result (spec.with_variant variant.now (graph_by graph.old) ≡ Ok (graph_by graph.new)) }
-    ensures fault { IfErr result (λ e. e ≢ RuleReadFault.Memory
-        → spec.with_variant variant.now (graph_by graph.old) ≡ Err e) }
-{
+fn add_variant(graph: &mut Graph, variant: &Variant) -> Result<(), RuleReadFault> {
     let added = graph.add_variant(&variant.dir, &variant.source, variant.duplicate);
     match added {
         Ok(()) => Ok(()),
@@ -119,12 +92,7 @@ fn add_aliases(
     dirs: &IndexSet<PathText>,
     aliases: &Aliases,
     graph: &mut Graph,
-) -> Result<(), RuleReadFault>
-    ensures { aliases.now ≡ alias_lists (declared_of state.now) → MatchResult result
-        (λ _. spec.with_aliases dirs.now.keys (declared_of state.now) state.now.aliases 0 (graph_by graph.old) ≡ Ok (graph_by graph.new))
-        (λ e. e ≢ RuleReadFault.Memory
-            → spec.with_aliases dirs.now.keys (declared_of state.now) state.now.aliases 0 (graph_by graph.old) ≡ Err e) }
-{
+) -> Result<(), RuleReadFault> {
     'aliases: for place in 0..state.aliases.len() {
         add_alias(alloc, state, dirs, aliases, graph, place)?;
     }
@@ -138,12 +106,7 @@ fn add_alias(
     aliases: &Aliases,
     graph: &mut Graph,
     place: usize,
-) -> Result<(), RuleReadFault>
-    ensures { aliases.now ≡ alias_lists (declared_of state.now) → (name : List ℕ) → slice_get (names_in state.now.aliases) place ≡ Some name
-        → MatchResult result (λ _. spec.with_alias name (spec.alias_files dirs.now.keys (declared_of state.now) place) (graph_by graph.old) ≡ Ok (graph_by graph.new))
-        (λ e. e ≢ RuleReadFault.Memory
-            → spec.with_alias name (spec.alias_files dirs.now.keys (declared_of state.now) place) (graph_by graph.old) ≡ Err e) }
-{
+) -> Result<(), RuleReadFault> {
     let Some((name, _)) = state.aliases.get_index(place) else {
         return Ok(());
     };
@@ -153,10 +116,7 @@ fn add_alias(
 }
 
 /// Adds the defaults, each once.
-fn add_defaults(alloc: Global, state: &Declarations, graph: &mut Graph) -> Result<(), Memory>
-    ensures { OnOk result (graph.new ≡ record graph.old {
-        defaults = graph.old.defaults ++ spec.wishes (declared_of state.now) }) }
-{
+fn add_defaults(alloc: Global, state: &Declarations, graph: &mut Graph) -> Result<(), Memory> {
     let mut met = IndexSet::new(alloc);
     for asked in &state.defaults {
         let wish = wish_of(state, asked)?;
@@ -167,18 +127,14 @@ fn add_defaults(alloc: Global, state: &Declarations, graph: &mut Graph) -> Resul
     Ok(())
 }
 
-fn add_helps(graph: &mut Graph, helps: &[Text]) -> Result<(), Memory>
-    ensures { OnOk result (graph.new ≡ record graph.old { helps = graph.old.helps ++ helps.now }) }
-{
+fn add_helps(graph: &mut Graph, helps: &[Text]) -> Result<(), Memory> {
     for help in helps {
         graph.add_help(help.copy()?)?;
     }
     Ok(())
 }
 
-fn wish_of(state: &Declarations, asked: &Asked) -> Result<Wish, Memory>
-    ensures { IfOk result (λ w. w ≡ spec.wish_of (declared_of state.now) asked.now) }
-{
+fn wish_of(state: &Declarations, asked: &Asked) -> Result<Wish, Memory> {
     match asked {
         Asked::Alias(name) => Ok(Wish::Alias(name.copy()?)),
         Asked::Path(path) => Ok(Wish::Path(path.copy()?)),
@@ -190,9 +146,7 @@ fn wish_of(state: &Declarations, asked: &Asked) -> Result<Wish, Memory>
 }
 
 /// The word that says the same on the command line.
-fn word_of(alloc: Global, wish: &Wish) -> Result<Text, Memory>
-    ensures { IfOk result (λ t. t ≡ spec.word_of wish.now) }
-{
+fn word_of(alloc: Global, wish: &Wish) -> Result<Text, Memory> {
     match wish {
         Wish::Alias(name) => name.copy(),
         Wish::Path(path) => Text::of(alloc, path.as_str()),

@@ -1,8 +1,4 @@
 //! The libraries that a program names.
-ghost use Rattle.std.specs.Prelude.{◌≡◌, ◌≢◌, ◌++◌, ◌∷◌, [], Ok, Err, None, IfOk, IfErr, OnOk, MatchResult, map};
-ghost use Rattle.scons_decls.specs.State.{declared_of};
-ghost use Rattle.scons_rules.specs.Expanding.{expanding};
-ghost use Rattle.scons_rules.specs.Libraries as spec;
 
 use crate::fault::RuleReadFault;
 use crate::one_rule::OneRule;
@@ -28,12 +24,7 @@ pub struct Wanted {
 }
 
 /// The libraries of a program's environment.
-pub(crate) fn wanted_by(rule: &OneRule<'_>) -> Result<Listing<Wanted>, RuleReadFault>
-    ensures ok { IfOk result (λ w. (f : spec.Files)
-        → spec.libraries f (expanding rule.now) ≡ Ok (map (spec.found_in f) w)) }
-    ensures fault { IfErr result (λ e. e ≢ RuleReadFault.Memory → (f : spec.Files)
-        → spec.libraries f (expanding rule.now) ≡ Err e) }
-{
+pub(crate) fn wanted_by(rule: &OneRule<'_>) -> Result<Listing<Wanted>, RuleReadFault> {
     let names = rule.lib_names()?;
     let dirs = rule.lib_dirs()?;
     refuse_for_shell(dirs.as_slice())?;
@@ -44,12 +35,7 @@ fn wanted_all(
     rule: &OneRule<'_>,
     dirs: &[PathText],
     items: &[LibItem],
-) -> Result<Listing<Wanted>, RuleReadFault>
-    ensures ok { IfOk result (λ w. (f : spec.Files)
-        → spec.each_library f (expanding rule.now) dirs.now items.now ≡ Ok (map (spec.found_in f) w)) }
-    ensures fault { IfErr result (λ e. e ≢ RuleReadFault.Memory → (f : spec.Files)
-        → spec.each_library f (expanding rule.now) dirs.now items.now ≡ Err e) }
-{
+) -> Result<Listing<Wanted>, RuleReadFault> {
     let mut wanted = Listing::empty(rule.alloc);
     for item in items {
         wanted.push(wanted_one(rule, dirs, item)?)?;
@@ -61,12 +47,7 @@ fn wanted_one(
     rule: &OneRule<'_>,
     dirs: &[PathText],
     item: &LibItem,
-) -> Result<Wanted, RuleReadFault>
-    ensures ok { IfOk result (λ w. (f : spec.Files)
-        → spec.library f (expanding rule.now) dirs.now item.now ≡ Ok (spec.found_in f w)) }
-    ensures fault { IfErr result (λ e. e ≢ RuleReadFault.Memory → (f : spec.Files)
-        → spec.library f (expanding rule.now) dirs.now item.now ≡ Err e) }
-{
+) -> Result<Wanted, RuleReadFault> {
     match item {
         LibItem::Node(path) => library_file(rule, path),
         LibItem::Name(name) => {
@@ -77,12 +58,7 @@ fn wanted_one(
 }
 
 /// A library that is named by its file, which stands in the line.
-fn library_file(rule: &OneRule<'_>, path: &PathText) -> Result<Wanted, RuleReadFault>
-    ensures ok { IfOk result (λ w. (f : spec.Files)
-        → spec.library_file rule.now.dirs.now.keys (declared_of rule.now.state.now) path.now ≡ Ok (spec.found_in f w)) }
-    ensures fault { IfErr result (λ e. e ≢ RuleReadFault.Memory
-        → spec.library_file rule.now.dirs.now.keys (declared_of rule.now.state.now) path.now ≡ Err e) }
-{
+fn library_file(rule: &OneRule<'_>, path: &PathText) -> Result<Wanted, RuleReadFault> {
     let file = settled(rule.state, rule.dirs, path)?;
     refuse_path_for_shell(&file)?;
     Ok(Wanted {
@@ -92,19 +68,13 @@ fn library_file(rule: &OneRule<'_>, path: &PathText) -> Result<Wanted, RuleReadF
 }
 
 /// The name of a library's file: prefix, name and suffix.
-fn file_name(rule: &OneRule<'_>, name: &Text) -> Result<Text, RuleReadFault>
-    ensures ok { IfOk result (λ t. spec.file_name (expanding rule.now) name.now ≡ Ok t) }
-    ensures fault { IfErr result (λ e. e ≢ RuleReadFault.Memory
-        → spec.file_name (expanding rule.now) name.now ≡ Err e) }
-{
+fn file_name(rule: &OneRule<'_>, name: &Text) -> Result<Text, RuleReadFault> {
     let prefix = rule.text("$LIBPREFIX")?;
     let suffix = rule.text("$LIBSUFFIX")?;
     Ok(joined(prefix, name, &suffix)?)
 }
 
-fn joined(prefix: Text, name: &Text, suffix: &Text) -> Result<Text, Memory>
-    ensures { IfOk result (λ t. t ≡ prefix ++ name.now ++ suffix.now) }
-{
+fn joined(prefix: Text, name: &Text, suffix: &Text) -> Result<Text, Memory> {
     let mut text = prefix.into_string();
     text.push_str(name.as_str())?;
     text.push_str(suffix.as_str())?;
@@ -117,10 +87,7 @@ fn candidates(
     state: &Declarations,
     dirs: &[PathText],
     file: &str,
-) -> Result<Wanted, Memory>
-    ensures { IfOk result (λ w. (f : spec.Files)
-        → spec.found_in f w ≡ spec.found_among f (declared_of state.now) file.now dirs.now) }
-{
+) -> Result<Wanted, Memory> {
     let mut wanted = Wanted {
         asked: Listing::empty(alloc),
         known: None,
@@ -142,9 +109,7 @@ fn place_in(
     state: &Declarations,
     dir: &PathText,
     file: &str,
-) -> Result<Option<PathText>, Memory>
-    ensures { IfOk result (λ p. p ≡ spec.place_in (declared_of state.now) file.now dir.now) }
-{
+) -> Result<Option<PathText>, Memory> {
     match PathText::resolve(alloc, &state.locals.top, dir, file) {
         Ok(path) => Ok(Some(path)),
         Err(PathFault::Memory) => Err(Memory),
@@ -153,11 +118,7 @@ fn place_in(
 }
 
 /// Asks for a place of a library, unless it is known without a look.
-fn ask(state: &Declarations, wanted: &mut Wanted, path: PathText) -> Result<(), Memory>
-    requires { wanted.old.known ≡ None }
-    ensures { OnOk result ((f : spec.Files) → spec.found_in f wanted.new
-        ≡ spec.or_at (spec.found_in f wanted.old) (spec.is_known f (declared_of state.now) path) path) }
-{
+fn ask(state: &Declarations, wanted: &mut Wanted, path: PathText) -> Result<(), Memory> {
     if state.made.contains(&path) {
         wanted.known = Some(path);
         return Ok(());
@@ -173,9 +134,7 @@ fn ask(state: &Declarations, wanted: &mut Wanted, path: PathText) -> Result<(), 
 }
 
 /// The source that would be copied to a path, in a variant directory with copies.
-fn copied_from(state: &Declarations, path: &PathText) -> Result<Option<PathText>, Memory>
-    ensures { IfOk result (λ p. p ≡ spec.copied_from (declared_of state.now) path.now) }
-{
+fn copied_from(state: &Declarations, path: &PathText) -> Result<Option<PathText>, Memory> {
     if !is_copied(state, path) {
         return Ok(None);
     }
@@ -188,11 +147,7 @@ fn ask_source(
     wanted: &mut Wanted,
     source: PathText,
     library: PathText,
-) -> Result<(), Memory>
-    requires { wanted.old.known ≡ None }
-    ensures { OnOk result ((f : spec.Files) → spec.found_in f wanted.new
-        ≡ spec.or_at (spec.found_in f wanted.old) (spec.is_source f (declared_of state.now) source) library) }
-{
+) -> Result<(), Memory> {
     if state.made.contains(&source) {
         wanted.known = Some(library);
         return Ok(());

@@ -86,11 +86,7 @@ fn go_on<'a>(
 }
 
 /// Takes a step, where what is left behind it stands last on the stack.
-fn take<'a>(
-    walk: &mut Walk<'a>,
-    lists: &'a [Listing<Step>],
-    step: &'a Step,
-) -> Result<(), Memory>
+fn take<'a>(walk: &mut Walk<'a>, lists: &'a [Listing<Step>], step: &'a Step) -> Result<(), Memory>
     ensures { OnOk result (Takes lists.now step.now (left_of walk.old) (gone_of walk.old) (left_of walk.new) (gone_of walk.new)) }
 {
     match step {
@@ -108,15 +104,11 @@ fn find<'a>(walk: &mut Walk<'a>, member: &'a Given) -> Result<(), Memory>
 }
 
 /// Begins the list at a place, unless it was begun before. More lists than there are don't stand in each other.
-fn enter<'a>(
-    walk: &mut Walk<'a>,
-    lists: &'a [Listing<Step>],
-    place: usize,
-) -> Result<(), Memory>
+fn enter<'a>(walk: &mut Walk<'a>, lists: &'a [Listing<Step>], place: usize) -> Result<(), Memory>
     ensures fits { OnOk result (length (left_of walk.old) ≤ length lists.now) }
     ensures enters { let n = length lists.now in OnOk result (unwound lists.now n (left_of walk.new) (gone_of walk.new)
         ≡ unwound lists.now n (left_of walk.old)
-            (list_at lists.now (n - length (left_of walk.old) + 1) place (gone_of walk.old))) }
+        (list_at lists.now (n - length (left_of walk.old) + 1) place (gone_of walk.old))) }
 {
     if walk.left.len() > lists.len() {
         return Err(Memory);

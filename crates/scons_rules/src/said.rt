@@ -114,11 +114,7 @@ impl SaidOf {
     }
 }
 
-fn add_numbered(
-    of_rule: &mut OfRule,
-    sentences: &[Sentence],
-    number: usize,
-) -> Result<(), Memory>
+fn add_numbered(of_rule: &mut OfRule, sentences: &[Sentence], number: usize) -> Result<(), Memory>
     ensures { OnOk result (of_rule.new ≡ fold with_sentence of_rule.old (filter_map (slice_get sentences.now) (number ∷ []))) }
 {
     match sentences.get(number) {

@@ -33,25 +33,25 @@ loop-one-preserved g c =
     let keys = c.loop-one.seen.keys in
     let now = λ (k : Bor (List ℕ)). k.now in
     let met : list_any (bytes_eq p) (map f (take i xs)) ≡ not c.in_ok-insert.field-0 =
-        met_before p (map f (take i xs)) (map now keys) c.in_ok-insert.field-0 (list_any (λ k. bytes_eq p (now k)) keys) c.loop-one.invariant.seen
-        c.in_ok-insert.ensures.added (any_key now p keys) in
+    met_before p (map f (take i xs)) (map now keys) c.in_ok-insert.field-0 (list_any (λ k. bytes_eq p (now k)) keys) c.loop-one.invariant.seen
+    c.in_ok-insert.ensures.added (any_key now p keys) in
     let seen =
-        key_more now keys c.insert.new.self.keys c.path.result c.in_ok-insert.ensures.keys ∙ ap (λ l. with_path l p) c.loop-one.invariant.seen
-        ∙ noted f xs i c.one-item.result p (omega arith) c.one-item.is c.path.ensures in
+    key_more now keys c.insert.new.self.keys c.path.result c.in_ok-insert.ensures.keys ∙ ap (λ l. with_path l p) c.loop-one.invariant.seen
+    ∙ noted f xs i c.one-item.result p (omega arith) c.one-item.is c.path.ensures in
     elim c.if-branch.branch [
-    | then-branch+in_ok-push_node w ↦ rw (w.graph-is, w.nodes-is) (record {
-      numbers =
-          put f xs i c.one-item.result p (omega arith) c.one-item.is c.path.ensures
-          c.args.graph.now.nodes c.loop-one.graph.nodes c.loop-one.nodes c.loop-one.invariant.numbers w.push_node.new.graph.nodes w.push_node.new.nodes
-          (met ∙ ap not w.if-branch.true) w.in_ok-push_node.ensures.ok;
-      seen = seen;
-      rest = rests w.push_node.new.graph c.loop-one.graph c.args.graph.now w.push_node.ensures.rest c.loop-one.invariant.rest;
-    })
-    | else-branch w ↦ rw (w.graph-is, w.nodes-is) (record {
-      numbers =
-          passed f xs i c.one-item.result p (omega arith) c.one-item.is c.path.ensures
-          c.args.graph.now.nodes c.loop-one.graph.nodes c.loop-one.nodes c.loop-one.invariant.numbers (met ∙ ap not w.if-branch.false);
-      seen = seen;
-      rest = c.loop-one.invariant.rest;
-    })
-  ]
+      | then-branch+in_ok-push_node w ↦ rw (w.graph-is, w.nodes-is) (record {
+        numbers =
+            put f xs i c.one-item.result p (omega arith) c.one-item.is c.path.ensures
+            c.args.graph.now.nodes c.loop-one.graph.nodes c.loop-one.nodes c.loop-one.invariant.numbers w.push_node.new.graph.nodes w.push_node.new.nodes
+            (met ∙ ap not w.if-branch.true) w.in_ok-push_node.ensures.ok;
+        seen = seen;
+        rest = rests w.push_node.new.graph c.loop-one.graph c.args.graph.now w.push_node.ensures.rest c.loop-one.invariant.rest;
+      })
+      | else-branch w ↦ rw (w.graph-is, w.nodes-is) (record {
+        numbers =
+            passed f xs i c.one-item.result p (omega arith) c.one-item.is c.path.ensures
+            c.args.graph.now.nodes c.loop-one.graph.nodes c.loop-one.nodes c.loop-one.invariant.numbers (met ∙ ap not w.if-branch.false);
+        seen = seen;
+        rest = c.loop-one.invariant.rest;
+      })
+    ]

@@ -10,6 +10,6 @@ returns-in-Member c =
 
 pub returns-in-Inner : goal.returns-in-Inner
 returns-in-Inner c =
-    on_ok c.enter.result (both_ok c.enter.result c.enter.ensures.fits c.enter.ensures.enters) (λ e.
+    on_ok c.enter.result (both_ok _ _ c.enter.result c.enter.ensures.fits c.enter.ensures.enters) (λ e.
     inner_taken c.args.lists.now c.args.step.now c.in-Inner.place (left_of c.args.walk.now) (left_of c.enter.new.walk) (gone_of c.args.walk.now) (gone_of c.enter.new.walk)
     c.in-Inner.is e.0 e.1)
