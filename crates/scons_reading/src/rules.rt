@@ -8,7 +8,7 @@ use rule_graph::Graph;
 use scons_base::{Listing, PathText, Paths};
 use scons_decls::{Declarations, NameFault, Place};
 use scons_host::{FirstRule, ReadKind, Stop, kind_of};
-use scons_rules::{RuleReadFault, RuleReading, Wanted};
+use scons_rules::{RuleLocals, RuleReadFault, RuleReading, Wanted};
 use std::alloc::Global;
 use world_api::{Kind, World};
 
@@ -59,8 +59,9 @@ fn add_all<W: World>(
     ensures looks { LooksAtFiles W.meaning world.old world.new }
     ensures cause { HasLookCause (W.meaning.counts world.old) (W.meaning.counts world.new) result }
 {
+    let mut locals = reading.locals()?;
     for number in 0..reading.count() {
-        add(alloc, world, reading, number, scripts)?;
+        add(alloc, world, reading, &mut locals, number, scripts)?;
     }
     Ok(())
 }
@@ -71,6 +72,7 @@ fn add<W: World>(
     alloc: Global,
     world: &mut W,
     reading: &mut RuleReading,
+    locals: &mut RuleLocals,
     number: usize,
     scripts: &Paths,
 ) -> Result<(), Stop>
@@ -78,15 +80,25 @@ fn add<W: World>(
     ensures cause { HasLookCause (W.meaning.counts world.old) (W.meaning.counts world.new) result }
 {
     let place = reading.place(number);
-    let wanted = match reading.wanted(number) {
+    let wanted = match wanted(reading, locals, number) {
         Ok(wanted) => wanted,
         Err(fault) => return Err(told(scripts, place, None, fault)),
     };
     let libraries = found(alloc, world, &wanted)?;
-    match reading.add(number, &libraries) {
+    match reading.add(number, locals, &libraries) {
         Ok(()) => Ok(()),
         Err(fault) => Err(told(scripts, place, first_rule(reading, &fault), fault)),
     }
+}
+
+/// Begins a rule; the libraries that it names.
+fn wanted(
+    reading: &RuleReading,
+    locals: &mut RuleLocals,
+    number: usize,
+) -> Result<Listing<Wanted>, RuleReadFault> {
+    reading.begin(number, locals)?;
+    reading.wanted(number, locals)
 }
 
 /// Where the first rule of a target is declared that has two.

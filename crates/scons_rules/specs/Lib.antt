@@ -1,1 +1,14 @@
+pub mod Faults
+pub mod Steps
 pub mod Numbers
+pub mod Settled
+pub mod Nodes
+pub mod Orders
+pub mod Walks
+pub mod AliasTable
+pub mod Aliased
+pub mod Sayings
+pub mod Shell
+pub mod Expanding
+pub mod Lines
+pub mod PathRules

@@ -1,18 +1,26 @@
 //! The actions of a rule: one that is the name of a list variable alone stands for an action for each item.
-ghost use Rattle.std.specs.Prelude.{◌≡◌, ◌<◌, IfOk};
+ghost use Rattle.std.specs.Prelude.{◌<◌, OnOk};
 ghost use Rattle.scons_base.specs.declared.limits.TheConstants.{REFERENCE_LIMIT};
 
 use crate::fault::RuleReadFault;
+use crate::one_rule::OneRule;
 use env_subst::SubstFault;
 use env_text::name_alone;
 use env_vars::{EnvValue, Item};
 use scons_base::limits::{LIST_LIMIT, REFERENCE_LIMIT};
-use scons_base::{EnvId, Memory, Text};
-use scons_decls::{Declarations, NameFault};
+use scons_base::{Memory, Text};
+use scons_decls::NameFault;
 use std::alloc::Global;
 
 /// The names that stand for a rule's own nodes and tool, whatever the environment has under them.
 const OWN_NAMES: [&str; 5] = ["TARGET", "TARGETS", "SOURCE", "SOURCES", "SMARTLINK"];
+
+/// A list variable: words, or items that have to be texts.
+#[derive(Clone, Copy)]
+enum NamedList<'a> {
+    Words(&'a [Text]),
+    Items(&'a str, &'a [Item]),
+}
 
 /// What is left to look at, the last first, what was found, and how many references were followed.
 #[derive(Drop)]
@@ -24,20 +32,18 @@ struct Actions<'a> {
 
 /// The actions of these texts. A text that is the name of a list variable alone stands for its items, each an action in turn.
 pub(crate) fn actions_of<'a>(
-    alloc: Global,
-    state: &'a Declarations,
-    env: EnvId,
+    rule: &OneRule<'a>,
     texts: Vec<&'a str>,
 ) -> Result<Vec<&'a str>, RuleReadFault> {
     let mut actions = Actions {
-        left: Vec::new(alloc),
-        found: Vec::with_capacity(alloc, texts.len())?,
+        left: Vec::new(rule.alloc),
+        found: Vec::with_capacity(rule.alloc, texts.len())?,
         references: 0,
     };
     push_in_front(&mut actions.left, texts)?;
     'actions: for _ in 0..u64::MAX {
         match actions.left.pop() {
-            Some(action) => take(alloc, state, env, &mut actions, action)?,
+            Some(action) => take(rule, &mut actions, action)?,
             None => return Ok(actions.found),
         }
     }
@@ -46,58 +52,62 @@ pub(crate) fn actions_of<'a>(
 
 /// An action as it stands, or what stands in its place.
 fn take<'a>(
-    alloc: Global,
-    state: &'a Declarations,
-    env: EnvId,
+    rule: &OneRule<'a>,
     actions: &mut Actions<'a>,
     action: &'a str,
 ) -> Result<(), RuleReadFault> {
-    if let Some((name, items)) = list_named(state, env, action) {
-        actions.references += count_one(actions)?;
-        let items = texts_in(alloc, name, items)?;
-        return Ok(push_in_front(&mut actions.left, items)?);
+    match list_named(rule, action) {
+        Some(list) => follow(rule, actions, list),
+        None => Ok(actions.found.push(action)?),
     }
-    Ok(actions.found.push(action)?)
 }
 
-/// One more reference, where there may be one.
-fn count_one(actions: &Actions<'_>) -> Result<u64, RuleReadFault>
-    ensures { IfOk result (λ n. (n ≡ 1) × (actions.now.references < REFERENCE_LIMIT)) }
+/// Follows a reference to a list: its items are looked at next.
+fn follow<'a>(
+    rule: &OneRule<'a>,
+    actions: &mut Actions<'a>,
+    list: NamedList<'a>,
+) -> Result<(), RuleReadFault> {
+    refuse_many(actions)?;
+    let items = texts_of(rule.alloc, list)?;
+    actions.references += 1;
+    Ok(push_in_front(&mut actions.left, items)?)
+}
+
+/// Refuses one more reference where there may be none, or where too much is left to look at.
+fn refuse_many(actions: &Actions<'_>) -> Result<(), RuleReadFault>
+    ensures { OnOk result (actions.now.references < REFERENCE_LIMIT) }
 {
     if actions.references < REFERENCE_LIMIT && actions.left.len() <= LIST_LIMIT as usize {
-        return Ok(1);
+        return Ok(());
     }
     let fault = SubstFault::TooMany(REFERENCE_LIMIT + 1);
     Err(RuleReadFault::Name(NameFault::Subst(fault)))
 }
 
 /// The list variable whose name is all that a text says.
-fn list_named<'a>(
-    state: &'a Declarations,
-    env: EnvId,
-    text: &'a str,
-) -> Option<(&'a str, &'a EnvValue)> {
+fn list_named<'a>(rule: &OneRule<'a>, text: &'a str) -> Option<NamedList<'a>> {
     let name = name_alone(text)?;
     if OWN_NAMES.contains(&name) {
         return None;
     }
-    let value = state.envs.get(env, name)?;
+    list_in(name, rule.state.envs.get(rule.env(), name)?)
+}
+
+/// The list that the value of a variable is.
+fn list_in<'a>(name: &'a str, value: &'a EnvValue) -> Option<NamedList<'a>> {
     match value {
-        EnvValue::Words(_) | EnvValue::List(_) => Some((name, value)),
+        EnvValue::Words(words) => Some(NamedList::Words(words.as_slice())),
+        EnvValue::List(items) => Some(NamedList::Items(name, items.as_slice())),
         _ => None,
     }
 }
 
 /// The texts of a list variable, which is refused where it has anything else.
-fn texts_in<'a>(
-    alloc: Global,
-    name: &str,
-    value: &'a EnvValue,
-) -> Result<Vec<&'a str>, RuleReadFault> {
-    match value {
-        EnvValue::Words(words) => Ok(strs(alloc, words.as_slice())?),
-        EnvValue::List(items) => item_texts(alloc, name, items.as_slice()),
-        _ => Ok(Vec::new(alloc)),
+fn texts_of<'a>(alloc: Global, list: NamedList<'a>) -> Result<Vec<&'a str>, RuleReadFault> {
+    match list {
+        NamedList::Words(words) => Ok(strs(alloc, words)?),
+        NamedList::Items(name, items) => item_texts(alloc, name, items),
     }
 }
 
@@ -108,12 +118,16 @@ fn item_texts<'a>(
 ) -> Result<Vec<&'a str>, RuleReadFault> {
     let mut texts = Vec::new(alloc);
     for item in items {
-        match item {
-            Item::Text(text) => texts.push(text.as_str())?,
-            _ => return Err(out_of_profile(alloc, name)),
-        }
+        texts.push(item_text(alloc, name, item)?)?;
     }
     Ok(texts)
+}
+
+fn item_text<'a>(alloc: Global, name: &str, item: &'a Item) -> Result<&'a str, RuleReadFault> {
+    match item {
+        Item::Text(text) => Ok(text.as_str()),
+        _ => Err(out_of_profile(alloc, name)),
+    }
 }
 
 fn out_of_profile(alloc: Global, name: &str) -> RuleReadFault {

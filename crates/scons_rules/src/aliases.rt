@@ -1,32 +1,47 @@
 //! The members of aliases, with those of aliases among them.
-use crate::orders::{Step, all_flattened};
+ghost use Rattle.std.specs.Prelude.{◌≡◌, ◌++◌, [], ℕ, List, Some, true, map, position, slice_get, option_copied, IfOk, OnOk};
+ghost use Rattle.std.specs.List.{filter_map, flat_map};
+ghost use Rattle.std.specs.Str.{bytes_eq};
+ghost use Rattle.scons_rules.specs.AliasTable.{names_in, parts_in};
+ghost use Rattle.scons_rules.specs.Aliased.{Leaves, lists_of, steps_of, step_of, path_in, paths_in};
+ghost use Rattle.scons_rules.specs.Orders.{flattened};
+
+use crate::ignored::Ignored;
+use crate::orders::{Step, flattened};
 use crate::sources::settled;
 use indexmap::IndexSet;
-use scons_base::{Memory, PathText, Paths};
-use scons_decls::{AliasParts, Aliases as Named, Declarations, Given};
+use scons_base::{Listing, Memory, PathText, Paths, Text};
+use scons_decls::{AliasParts, Declarations, Given};
 use std::alloc::Global;
+use std::marker::Model;
 
-/// The files and directories that aliases stand for. Where an alias is a member its members stand in its place, depth first, and
-/// each alias and each member counts once.
+/// What aliases stand for. Where an alias is a member its members stand in its place, depth first, and one that was met before
+/// is passed over.
 #[derive(Drop)]
 pub(crate) struct Aliases {
-    /// The members of all aliases that are no aliases.
-    members: Vec<Given>,
-    /// Of each alias, by its place among the declared ones, the places of its members.
-    flat: Vec<Vec<usize>>,
+    /// The members of each alias, by its place among the declared ones.
+    lists: Vec<Listing<Step>>,
+}
+
+impl Model for Aliases {
+    ghost use Rattle.scons_rules.specs.Orders.{Lists};
+
+    ghost Value = { Lists };
+
+    ghost view = { λ a. a.lists.items };
 }
 
 impl Aliases {
-    pub(crate) fn new(alloc: Global, state: &Declarations) -> Result<Aliases, Memory> {
-        let mut members = Vec::new(alloc);
-        let mut steps = Vec::new(alloc);
+    pub(crate) fn new(alloc: Global, state: &Declarations) -> Result<Aliases, Memory>
+        ensures { IfOk result (λ a. a ≡ lists_of (names_in state.now.aliases) (parts_in state.now.aliases)) }
+    {
+        let mut lists = Vec::with_capacity(alloc, state.aliases.len())?;
         'aliases: for place in 0..state.aliases.len() {
-            if let Some((_, parts)) = state.aliases.get_index(place) {
-                steps.push(steps_of(alloc, state, &mut members, parts)?)?;
+            if let Some(parts) = parts_at(state, place) {
+                lists.push(steps_of(alloc, state, parts)?)?;
             }
         }
-        let flat = all_flattened(alloc, steps.as_slice())?;
-        Ok(Aliases { members, flat })
+        Ok(Aliases { lists })
     }
 
     /// The files and directories that the alias at a place stands for.
@@ -34,22 +49,15 @@ impl Aliases {
         &self,
         alloc: Global,
         state: &Declarations,
+        dirs: &IndexSet<PathText>,
         place: usize,
     ) -> Result<Paths, Memory> {
         let mut files = Paths::new(Vec::new(alloc));
-        for number in self.numbers_at(place) {
-            if let Some(member) = self.members.get(*number) {
-                push_file(state, &mut files, member)?;
-            }
+        let members = flattened(alloc, self.lists.as_slice(), place)?;
+        for member in members.as_slice() {
+            push_file(state, dirs, &mut files, member)?;
         }
         Ok(files)
-    }
-
-    fn numbers_at(&self, place: usize) -> &[usize] {
-        match self.flat.get(place) {
-            Some(numbers) => numbers.as_slice(),
-            None => &[],
-        }
     }
 
     /// The paths of these nodes, with the members of each alias in its place.
@@ -58,143 +66,130 @@ impl Aliases {
         alloc: Global,
         state: &Declarations,
         nodes: &[Given],
-    ) -> Result<Paths, Memory> {
+    ) -> Result<Paths, Memory>
+        ensures { IfOk result (λ p. p ≡ flat_map (paths_in (names_in state.now.aliases) self.now) nodes.now) }
+    {
         let mut paths = Paths::new(Vec::new(alloc));
         for node in nodes {
-            self.push_paths(state, &mut paths, node)?;
+            self.push_paths(alloc, state, &mut paths, node)?;
         }
         Ok(paths)
     }
 
     fn push_paths(
         &self,
+        alloc: Global,
         state: &Declarations,
         paths: &mut Paths,
         node: &Given,
-    ) -> Result<(), Memory> {
+    ) -> Result<(), Memory>
+        ensures { OnOk result (paths.new ≡ paths.old ++ paths_in (names_in state.now.aliases) self.now node.now) }
+    {
         let Given::Alias(name) = node else {
             return push_path(paths, node);
         };
-        let Some(place) = state.aliases.get_index_of(name.as_str()) else {
-            return Ok(());
-        };
-        for number in self.numbers_at(place) {
-            if let Some(member) = self.members.get(*number) {
-                push_path(paths, member)?;
-            }
+        match place_of(state, name) {
+            Some(place) => self.push_members(alloc, paths, place),
+            None => Ok(()),
+        }
+    }
+
+    fn push_members(&self, alloc: Global, paths: &mut Paths, place: usize) -> Result<(), Memory>
+        ensures { OnOk result (paths.new ≡ paths.old ++ flat_map path_in (flattened self.now place)) }
+    {
+        let members = flattened(alloc, self.lists.as_slice(), place)?;
+        for member in members.as_slice() {
+            push_path(paths, member)?;
         }
         Ok(())
     }
 }
 
+/// The place of an alias among the declared ones.
+fn place_of(state: &Declarations, name: &Text) -> Option<usize>
+    ensures { result ≡ position (bytes_eq name.now) (names_in state.now.aliases) }
+{
+    state.aliases.get_index_of(name.as_str())
+}
+
+/// What the alias at a place stands for.
+fn parts_at(state: &Declarations, place: usize) -> Option<&AliasParts>
+    ensures { option_copied result ≡ slice_get (parts_in state.now.aliases) place }
+{
+    match state.aliases.get_index(place) {
+        Some((_, parts)) => Some(parts),
+        None => None,
+    }
+}
+
 /// Puts the file that a member stands for behind others, or the directory.
-fn push_file(state: &Declarations, files: &mut Paths, member: &Given) -> Result<(), Memory> {
+fn push_file(
+    state: &Declarations,
+    dirs: &IndexSet<PathText>,
+    files: &mut Paths,
+    member: &Given,
+) -> Result<(), Memory> {
     match member {
-        Given::File(path) => files.push(settled(state, path)?),
+        Given::File(path) => files.push(settled(state, dirs, path)?),
         Given::Dir(path) => files.push(path.copy()?),
         Given::Text(_) | Given::Alias(_) => Ok(()),
     }
 }
 
-fn push_path(paths: &mut Paths, node: &Given) -> Result<(), Memory> {
+fn push_path(paths: &mut Paths, node: &Given) -> Result<(), Memory>
+    ensures { OnOk result (paths.new ≡ paths.old ++ path_in node.now) }
+{
     match node {
         Given::File(path) | Given::Dir(path) => paths.push(path.copy()?),
         Given::Text(_) | Given::Alias(_) => Ok(()),
     }
 }
 
-/// What an alias ignores.
-#[derive(Drop)]
-struct Ignored {
-    paths: IndexSet<PathText>,
-    aliases: IndexSet<String>,
-}
-
-impl Ignored {
-    fn new(alloc: Global) -> Ignored {
-        Ignored {
-            paths: IndexSet::new(alloc),
-            aliases: IndexSet::new(alloc),
-        }
-    }
-}
-
-/// The steps of an alias; what of them are no aliases is put behind the members.
+/// The steps of an alias: what it requires, and then its members but those that it ignores.
 fn steps_of(
     alloc: Global,
     state: &Declarations,
-    members: &mut Vec<Given>,
     parts: &AliasParts,
-) -> Result<Vec<Step>, Memory> {
+) -> Result<Listing<Step>, Memory>
+    ensures { IfOk result (λ s. s ≡ steps_of (names_in state.now.aliases) parts.now) }
+{
     let none = Ignored::new(alloc);
-    let ignored = ignored_by(alloc, parts)?;
-    let mut steps = Vec::new(alloc);
-    push_steps(state, &none, members, &mut steps, parts.required.as_slice())?;
-    push_steps(
-        state,
-        &ignored,
-        members,
-        &mut steps,
-        parts.members.as_slice(),
-    )?;
+    let ignored = Ignored::of(alloc, parts.ignored.as_slice())?;
+    let mut steps = Listing::empty(alloc);
+    push_steps(state, &none, &mut steps, parts.required.as_slice())?;
+    push_steps(state, &ignored, &mut steps, parts.members.as_slice())?;
     Ok(steps)
 }
 
 fn push_steps(
     state: &Declarations,
     ignored: &Ignored,
-    members: &mut Vec<Given>,
-    steps: &mut Vec<Step>,
+    steps: &mut Listing<Step>,
     nodes: &[Given],
-) -> Result<(), Memory> {
+) -> Result<(), Memory>
+    ensures { OnOk result ((left : List Given) → Leaves left ignored.now
+        → steps.new ≡ steps.old ++ filter_map (step_of (names_in state.now.aliases) left) nodes.now) }
+{
     for node in nodes {
-        if let Some(step) = step_of(&state.aliases, ignored, members, node)? {
+        if let Some(step) = step_of(state, ignored, node)? {
             steps.push(step)?;
         }
     }
     Ok(())
 }
 
-fn step_of(
-    aliases: &Named,
-    ignored: &Ignored,
-    members: &mut Vec<Given>,
-    member: &Given,
-) -> Result<Option<Step>, Memory> {
-    match member {
-        Given::Alias(name) if ignored.aliases.contains(name.as_str()) => Ok(None),
-        Given::Alias(name) => match aliases.get_index_of(name.as_str()) {
-            Some(place) => Ok(Some(Step::List(place))),
+/// The step of a node, unless it is ignored. An alias that isn't declared has no members.
+fn step_of(state: &Declarations, ignored: &Ignored, node: &Given) -> Result<Option<Step>, Memory>
+    ensures { IfOk result (λ s. (left : List Given) → Leaves left ignored.now → s ≡ step_of (names_in state.now.aliases) left node.now) }
+{
+    if ignored.has(node) {
+        return Ok(None);
+    }
+    match node {
+        Given::Alias(name) => match place_of(state, name) {
+            Some(place) => Ok(Some(Step::Inner(place))),
             None => Ok(None),
         },
-        Given::File(path) | Given::Dir(path) if ignored.paths.contains(path) => Ok(None),
-        _ => {
-            let number = members.len();
-            members.push(member.copy()?)?;
-            Ok(Some(Step::Member(number)))
-        }
+        _ => Ok(Some(Step::Member(node.copy()?))),
     }
-}
-
-fn ignored_by(alloc: Global, parts: &AliasParts) -> Result<Ignored, Memory> {
-    let mut ignored = Ignored::new(alloc);
-    for node in parts.ignored.as_slice() {
-        ignore(alloc, &mut ignored, node)?;
-    }
-    Ok(ignored)
-}
-
-fn ignore(alloc: Global, ignored: &mut Ignored, node: &Given) -> Result<(), Memory> {
-    match node {
-        Given::Alias(name) => {
-            ignored
-                .aliases
-                .insert(String::from_str(alloc, name.as_str())?)?;
-        }
-        Given::File(path) | Given::Dir(path) => {
-            ignored.paths.insert(path.copy()?)?;
-        }
-        Given::Text(_) => {}
-    }
-    Ok(())
 }

@@ -1,12 +1,15 @@
 //! What the graph holds beside rules.
+
+use crate::aliases::Aliases;
 use crate::fault::RuleReadFault;
 use crate::interning::nodes_of;
 use crate::reading::RuleReading;
 use indexmap::IndexSet;
 use rule_graph::{Graph, Wish};
-use scons_base::{Memory, Text};
+use scons_base::{Memory, PathText, Text};
 use scons_decls::{Asked, Declarations, NameFault, Said, Saying};
 use std::alloc::Global;
+use variant_dirs::Variant;
 
 impl RuleReading {
     /// The graph, with aliases, defaults, help texts and variant directories.
@@ -22,82 +25,111 @@ impl RuleReading {
     }
 
     fn add_rest(&mut self) -> Result<(), RuleReadFault> {
-        self.refuse_unmade()?;
-        self.add_variants()?;
-        self.add_aliases()?;
-        self.add_defaults()?;
-        self.add_helps()
-    }
-
-    /// What is said of a target that no rule makes would count for nothing. That it is always made is no matter then.
-    fn refuse_unmade(&self) -> Result<(), RuleReadFault> {
-        for said in &self.state.said {
-            if !matches!(said.saying, Saying::Always) {
-                refuse_unmade(&self.state, said)?;
-            }
-        }
-        Ok(())
-    }
-
-    fn add_variants(&mut self) -> Result<(), RuleReadFault> {
-        for variant in self.state.locals.variants.as_slice() {
-            let added = self
-                .graph
-                .add_variant(&variant.dir, &variant.source, variant.duplicate);
-            if let Err(fault) = added {
-                return Err(RuleReadFault::from(NameFault::from(fault)));
-            }
-        }
-        Ok(())
-    }
-
-    fn add_aliases(&mut self) -> Result<(), RuleReadFault> {
-        'aliases: for place in 0..self.state.aliases.len() {
-            self.add_alias(place)?;
-        }
-        Ok(())
-    }
-
-    fn add_alias(&mut self, place: usize) -> Result<(), RuleReadFault> {
-        let state = &self.state;
-        let Some((name, _)) = state.aliases.get_index(place) else {
-            return Ok(());
-        };
-        let name = name.clone()?;
-        let paths = self.aliases.files_at(self.alloc, state, place)?;
-        let nodes = nodes_of(self.alloc, &mut self.graph, paths.as_slice())?;
-        self.graph.add_alias(name.as_str(), nodes.as_slice())?;
-        Ok(())
-    }
-
-    /// Adds the defaults, each once.
-    fn add_defaults(&mut self) -> Result<(), RuleReadFault> {
-        let mut met = IndexSet::new(self.alloc);
-        let state = &self.state;
-        for asked in &state.defaults {
-            let wish = wish_of(state, asked)?;
-            if met.insert(word_of(self.alloc, &wish)?)? {
-                self.graph.add_default(wish)?;
-            }
-        }
-        Ok(())
-    }
-
-    fn add_helps(&mut self) -> Result<(), RuleReadFault> {
-        for help in self.state.helps.as_slice() {
-            self.graph.add_help(help.copy()?)?;
-        }
-        Ok(())
+        refuse_unmade(&self.state)?;
+        add_variants(&mut self.graph, self.state.locals.variants.as_slice())?;
+        add_aliases(
+            self.alloc,
+            &self.state,
+            &self.dirs,
+            &self.aliases,
+            &mut self.graph,
+        )?;
+        add_defaults(self.alloc, &self.state, &mut self.graph)?;
+        Ok(add_helps(&mut self.graph, self.state.helps.as_slice())?)
     }
 }
 
+/// What is said of a target that no rule makes would count for nothing. That it is always made is no matter then.
+fn refuse_unmade(state: &Declarations) -> Result<(), RuleReadFault> {
+    for said in &state.said {
+        refuse_without_rule(state, said)?;
+    }
+    Ok(())
+}
+
 /// Refuses what was said of the first target that no rule makes.
-fn refuse_unmade(state: &Declarations, said: &Said) -> Result<(), RuleReadFault> {
-    for target in said.targets.as_slice() {
-        if !state.made.contains(target) {
+fn refuse_without_rule(state: &Declarations, said: &Said) -> Result<(), RuleReadFault> {
+    if matches!(said.saying, Saying::Always) {
+        return Ok(());
+    }
+    match unmade(state, said.targets.as_slice()) {
+        Some(target) => {
             let fault = NameFault::NoRule(target.copy()?);
-            return Err(RuleReadFault::At(said.place, fault));
+            Err(RuleReadFault::At(said.place, fault))
         }
+        None => Ok(()),
+    }
+}
+
+/// The first of these that no rule makes.
+fn unmade<'a>(state: &Declarations, targets: &'a [PathText]) -> Option<&'a PathText> {
+    for target in targets {
+        if !state.made.contains(target) {
+            return Some(target);
+        }
+    }
+    None
+}
+
+fn add_variants(graph: &mut Graph, variants: &[Variant]) -> Result<(), RuleReadFault> {
+    for variant in variants {
+        add_variant(graph, variant)?;
+    }
+    Ok(())
+}
+
+fn add_variant(graph: &mut Graph, variant: &Variant) -> Result<(), RuleReadFault> {
+    let added = graph.add_variant(&variant.dir, &variant.source, variant.duplicate);
+    match added {
+        Ok(()) => Ok(()),
+        Err(fault) => Err(RuleReadFault::from(NameFault::from(fault))),
+    }
+}
+
+fn add_aliases(
+    alloc: Global,
+    state: &Declarations,
+    dirs: &IndexSet<PathText>,
+    aliases: &Aliases,
+    graph: &mut Graph,
+) -> Result<(), RuleReadFault> {
+    'aliases: for place in 0..state.aliases.len() {
+        add_alias(alloc, state, dirs, aliases, graph, place)?;
+    }
+    Ok(())
+}
+
+fn add_alias(
+    alloc: Global,
+    state: &Declarations,
+    dirs: &IndexSet<PathText>,
+    aliases: &Aliases,
+    graph: &mut Graph,
+    place: usize,
+) -> Result<(), RuleReadFault> {
+    let Some((name, _)) = state.aliases.get_index(place) else {
+        return Ok(());
+    };
+    let files = aliases.files_at(alloc, state, dirs, place)?;
+    let nodes = nodes_of(alloc, graph, files.as_slice())?;
+    Ok(graph.add_alias(name.as_str(), nodes.as_slice())?)
+}
+
+/// Adds the defaults, each once.
+fn add_defaults(alloc: Global, state: &Declarations, graph: &mut Graph) -> Result<(), Memory> {
+    let mut met = IndexSet::new(alloc);
+    for asked in &state.defaults {
+        let wish = wish_of(state, asked)?;
+        if met.insert(word_of(alloc, &wish)?)? {
+            graph.add_default(wish)?;
+        }
+    }
+    Ok(())
+}
+
+fn add_helps(graph: &mut Graph, helps: &[Text]) -> Result<(), Memory> {
+    for help in helps {
+        graph.add_help(help.copy()?)?;
     }
     Ok(())
 }

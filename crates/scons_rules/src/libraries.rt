@@ -1,9 +1,11 @@
 //! The libraries that a program names.
+
 use crate::fault::RuleReadFault;
+use crate::one_rule::OneRule;
 use crate::shell::{refuse_for_shell, refuse_path_for_shell};
-use crate::sources::settled;
-use env_subst::{LibItem, Mode};
-use scons_base::{EnvId, Listing, PathText, Paths, Text};
+use crate::sources::{is_copied, settled};
+use env_subst::LibItem;
+use scons_base::{Listing, Memory, PathFault, PathText, Text};
 use scons_decls::Declarations;
 use std::alloc::Global;
 
@@ -21,115 +23,140 @@ pub struct Wanted {
     pub known: Option<PathText>,
 }
 
-/// The libraries of an environment.
-pub(crate) fn wanted_by(
-    alloc: Global,
-    state: &Declarations,
-    env: EnvId,
-) -> Result<Listing<Wanted>, RuleReadFault> {
-    let names = state.envs.lib_names(env, &state.locals)?;
-    let dirs = state.envs.dirs(env, "LIBPATH", &state.locals)?;
+/// The libraries of a program's environment.
+pub(crate) fn wanted_by(rule: &OneRule<'_>) -> Result<Listing<Wanted>, RuleReadFault> {
+    let names = rule.lib_names()?;
+    let dirs = rule.lib_dirs()?;
     refuse_for_shell(dirs.as_slice())?;
-    let mut wanted = Listing::empty(alloc);
-    for name in names.as_slice() {
-        wanted.push(wanted_one(alloc, state, env, dirs.as_slice(), name)?)?;
+    wanted_all(rule, dirs.as_slice(), names.as_slice())
+}
+
+fn wanted_all(
+    rule: &OneRule<'_>,
+    dirs: &[PathText],
+    items: &[LibItem],
+) -> Result<Listing<Wanted>, RuleReadFault> {
+    let mut wanted = Listing::empty(rule.alloc);
+    for item in items {
+        wanted.push(wanted_one(rule, dirs, item)?)?;
     }
     Ok(wanted)
 }
 
 fn wanted_one(
-    alloc: Global,
-    state: &Declarations,
-    env: EnvId,
+    rule: &OneRule<'_>,
     dirs: &[PathText],
     item: &LibItem,
 ) -> Result<Wanted, RuleReadFault> {
     match item {
-        LibItem::Node(path) => library_file(alloc, state, path),
+        LibItem::Node(path) => library_file(rule, path),
         LibItem::Name(name) => {
-            let file = file_name(state, env, name)?;
-            candidates(alloc, state, dirs, file.as_str())
+            let file = file_name(rule, name)?;
+            Ok(candidates(rule.alloc, rule.state, dirs, file.as_str())?)
         }
     }
 }
 
 /// A library that is named by its file, which stands in the line.
-fn library_file(
-    alloc: Global,
-    state: &Declarations,
-    path: &PathText,
-) -> Result<Wanted, RuleReadFault> {
-    let file = settled(state, path)?;
+fn library_file(rule: &OneRule<'_>, path: &PathText) -> Result<Wanted, RuleReadFault> {
+    let file = settled(rule.state, rule.dirs, path)?;
     refuse_path_for_shell(&file)?;
     Ok(Wanted {
-        asked: Listing::empty(alloc),
+        asked: Listing::empty(rule.alloc),
         known: Some(file),
     })
 }
 
 /// The name of a library's file: prefix, name and suffix.
-fn file_name(state: &Declarations, env: EnvId, name: &Text) -> Result<Text, RuleReadFault> {
-    let locals = &state.locals;
-    let prefix = state.envs.subst(env, "$LIBPREFIX", locals, Mode::Text)?;
-    let suffix = state.envs.subst(env, "$LIBSUFFIX", locals, Mode::Text)?;
+fn file_name(rule: &OneRule<'_>, name: &Text) -> Result<Text, RuleReadFault> {
+    let prefix = rule.text("$LIBPREFIX")?;
+    let suffix = rule.text("$LIBSUFFIX")?;
+    Ok(joined(prefix, name, &suffix)?)
+}
+
+fn joined(prefix: Text, name: &Text, suffix: &Text) -> Result<Text, Memory> {
     let mut text = prefix.into_string();
     text.push_str(name.as_str())?;
     text.push_str(suffix.as_str())?;
     Ok(Text::new(text))
 }
 
-/// The places of a file, up to the first that is a target.
+/// The places of a file, up to the first that is known without a look.
 fn candidates(
     alloc: Global,
     state: &Declarations,
     dirs: &[PathText],
     file: &str,
-) -> Result<Wanted, RuleReadFault> {
+) -> Result<Wanted, Memory> {
     let mut wanted = Wanted {
         asked: Listing::empty(alloc),
         known: None,
     };
     for dir in dirs {
-        let Ok(path) = PathText::resolve(alloc, &state.locals.top, dir, file) else {
-            continue;
-        };
-        if state.made.contains(&path) {
-            wanted.known = Some(path);
-            return Ok(wanted);
+        if let Some(path) = place_in(alloc, state, dir, file)? {
+            ask(state, &mut wanted, path)?;
         }
-        if let Some(known) = ask(state, &mut wanted, path)? {
-            wanted.known = Some(known);
+        if wanted.known.is_some() {
             return Ok(wanted);
         }
     }
     Ok(wanted)
 }
 
-/// Asks for a file, and for its source where that would be copied. A source that is a target makes it known.
-fn ask(
+/// The path of a file in a directory, if there may be one.
+fn place_in(
+    alloc: Global,
     state: &Declarations,
-    wanted: &mut Wanted,
-    path: PathText,
-) -> Result<Option<PathText>, RuleReadFault> {
-    let variants = &state.locals.variants;
-    let is_copied = match variants.variant_of(&path) {
-        Some(variant) => variant.duplicate,
-        None => false,
-    };
-    let source = variants.source_of(&state.locals.top, &path)?;
+    dir: &PathText,
+    file: &str,
+) -> Result<Option<PathText>, Memory> {
+    match PathText::resolve(alloc, &state.locals.top, dir, file) {
+        Ok(path) => Ok(Some(path)),
+        Err(PathFault::Memory) => Err(Memory),
+        Err(_) => Ok(None),
+    }
+}
+
+/// Asks for a place of a library, unless it is known without a look.
+fn ask(state: &Declarations, wanted: &mut Wanted, path: PathText) -> Result<(), Memory> {
+    if state.made.contains(&path) {
+        wanted.known = Some(path);
+        return Ok(());
+    }
     wanted.asked.push(AskedFile {
         file: path.copy()?,
         library: path.copy()?,
     })?;
-    match source {
-        Some(source) if is_copied && state.made.contains(&source) => Ok(Some(path)),
-        Some(source) if is_copied => {
-            wanted.asked.push(AskedFile {
-                file: source,
-                library: path,
-            })?;
-            Ok(None)
-        }
-        _ => Ok(None),
+    match copied_from(state, &path)? {
+        Some(source) => ask_source(state, wanted, source, path),
+        None => Ok(()),
     }
+}
+
+/// The source that would be copied to a path, in a variant directory with copies.
+fn copied_from(state: &Declarations, path: &PathText) -> Result<Option<PathText>, Memory> {
+    if !is_copied(state, path) {
+        return Ok(None);
+    }
+    state.locals.variants.source_of(&state.locals.top, path)
+}
+
+/// Asks for the source of a library. One that is a target makes the library known. A copy is never copied further.
+fn ask_source(
+    state: &Declarations,
+    wanted: &mut Wanted,
+    source: PathText,
+    library: PathText,
+) -> Result<(), Memory> {
+    if state.made.contains(&source) {
+        wanted.known = Some(library);
+        return Ok(());
+    }
+    if is_copied(state, &source) {
+        return Ok(());
+    }
+    wanted.asked.push(AskedFile {
+        file: source,
+        library,
+    })
 }

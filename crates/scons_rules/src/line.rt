@@ -1,10 +1,11 @@
 //! The lines of a rule.
-ghost use Rattle.std.specs.Prelude.{◌<◌, length, IfSome};
+ghost use Rattle.std.specs.Prelude.{◌≡◌, ◌≤◌, ◌++◌, drop, length, IfOk, OnOk};
+ghost use Rattle.scons_rules.specs.Lines.{is_mark, marks_len, line_of, lines_behind, with_command};
 
 use crate::fault::RuleReadFault;
+use crate::one_rule::OneRule;
 use env_subst::CommandLines;
-use scons_base::{EnvId, Listing, Memory, Text, Texts};
-use scons_decls::Declarations;
+use scons_base::{Listing, Memory, Text, Texts};
 use std::alloc::Global;
 use world_api::Line;
 
@@ -16,38 +17,29 @@ pub(crate) struct RuleLines {
 }
 
 /// The expanded lines of these texts.
-pub(crate) fn lines_of(
-    alloc: Global,
-    state: &Declarations,
-    env: EnvId,
-    texts: &[&str],
-) -> Result<RuleLines, RuleReadFault> {
+pub(crate) fn lines_of(rule: &OneRule<'_>, texts: &[&str]) -> Result<RuleLines, RuleReadFault> {
     let mut lines = RuleLines {
-        lines: Listing::empty(alloc),
-        signed: Texts::new(Vec::new(alloc)),
+        lines: Listing::empty(rule.alloc),
+        signed: Texts::new(Vec::new(rule.alloc)),
     };
     for text in texts {
-        add_lines(alloc, state, env, &mut lines, text)?;
+        let command = rule.lines(text)?;
+        add_command(rule.alloc, &mut lines, command)?;
     }
     Ok(lines)
 }
 
-fn add_lines(
-    alloc: Global,
-    state: &Declarations,
-    env: EnvId,
-    lines: &mut RuleLines,
-    text: &str,
-) -> Result<(), RuleReadFault> {
-    let CommandLines { plain, signed } = state.envs.lines(env, text, &state.locals)?;
+fn add_command(alloc: Global, lines: &mut RuleLines, command: CommandLines) -> Result<(), Memory>
+    ensures { OnOk result (lines.new ≡ with_command lines.old command) }
+{
+    let CommandLines { plain, signed } = command;
     add_signed(&mut lines.signed, signed)?;
-    for line in plain.into_vec() {
-        add_line(alloc, &mut lines.lines, line)?;
-    }
-    Ok(())
+    add_lines(alloc, &mut lines.lines, plain)
 }
 
-fn add_signed(signed: &mut Texts, more: Texts) -> Result<(), Memory> {
+fn add_signed(signed: &mut Texts, more: Texts) -> Result<(), Memory>
+    ensures { OnOk result (signed.new ≡ signed.old ++ more) }
+{
     if signed.as_slice().is_empty() {
         *signed = more;
         return Ok(());
@@ -58,21 +50,29 @@ fn add_signed(signed: &mut Texts, more: Texts) -> Result<(), Memory> {
     Ok(())
 }
 
-/// Adds a line without its marks. An empty one is left out.
-fn add_line(alloc: Global, lines: &mut Listing<Line>, text: Text) -> Result<(), Memory> {
-    let Marked {
-        quiet,
-        ignore,
-        rest,
-    } = behind_marks(text.as_str());
-    if rest.is_empty() {
+/// Puts lines without their marks behind others.
+fn add_lines(alloc: Global, lines: &mut Listing<Line>, more: Texts) -> Result<(), Memory>
+    ensures { OnOk result (lines.new ≡ lines.old ++ lines_behind more) }
+{
+    for line in more.into_vec() {
+        add_line(alloc, lines, line)?;
+    }
+    Ok(())
+}
+
+/// Puts a line without its marks behind others. An empty one is left out.
+#[tactic(auto, unfolding(crate::specs::Lines::line_of))]
+fn add_line(alloc: Global, lines: &mut Listing<Line>, text: Text) -> Result<(), Memory>
+    ensures { OnOk result (lines.new ≡ lines.old ++ line_of text) }
+{
+    let bytes = text.as_str().as_bytes();
+    let len = marks_len(bytes);
+    if len == bytes.len() {
         return Ok(());
     }
-    let bare = if rest.len() < text.as_str().len() {
-        Text::of(alloc, rest)?
-    } else {
-        text
-    };
+    let quiet = bytes[..len].contains(&b'@');
+    let ignore = bytes[..len].contains(&b'-');
+    let bare = behind(alloc, text, len)?;
     lines.push(Line {
         text: bare,
         quiet,
@@ -80,39 +80,35 @@ fn add_line(alloc: Global, lines: &mut Listing<Line>, text: Text) -> Result<(), 
     })
 }
 
-/// What the marks of a line say, and what stands behind them.
-#[derive(Clone, Copy)]
-struct Marked<'a> {
-    quiet: bool,
-    ignore: bool,
-    rest: &'a str,
-}
-
-fn behind_marks(text: &str) -> Marked<'_> {
-    let mut quiet = false;
-    let mut ignore = false;
-    let mut rest = text;
-    'marks: while let Some((mark, after)) = first_mark(rest) {
-        quiet = quiet || mark == b'@';
-        ignore = ignore || mark == b'-';
-        rest = after;
-    }
-    Marked {
-        quiet,
-        ignore,
-        rest,
-    }
-}
-
-/// The mark or white space that a line begins with, and the rest.
-fn first_mark(text: &str) -> Option<(u8, &str)>
-    ensures { IfSome result (λ part. length part.1.now < length text.now) }
+/// A text without so many bytes in front. Marks are characters of one byte, so it is cut between characters.
+fn behind(alloc: Global, text: Text, len: usize) -> Result<Text, Memory>
+    ensures { IfOk result (λ t. t ≡ drop len text) }
 {
-    let (first, after) = text.split_at_checked(1)?;
-    let mark = *first.as_bytes().first()?;
-    if matches!(mark, b'@' | b'-' | b' ' | 9..=13) {
-        Some((mark, after))
-    } else {
-        None
+    if len == 0 {
+        return Ok(text);
     }
+    match text.as_str().split_at_checked(len) {
+        Some((_, rest)) => Text::of(alloc, rest),
+        None => Err(Memory),
+    }
+}
+
+/// How many bytes the marks in front of a line take, and the white space among them.
+fn marks_len(line: &[u8]) -> usize
+    ensures len { result ≡ marks_len line.now }
+    ensures within { result ≤ length line.now }
+{
+    for (place, byte) in line.iter().enumerate() {
+        if !is_mark(*byte) {
+            return place;
+        }
+    }
+    line.len()
+}
+
+#[tactic(auto, unfolding(crate::specs::Lines::is_mark))]
+fn is_mark(byte: u8) -> bool
+    ensures { result ≡ is_mark byte }
+{
+    matches!(byte, b'@' | b'-' | b' ' | 9..=13)
 }

@@ -1,162 +1,130 @@
-//! Lists in lists, flattened depth first. The stack is the loop's own, since lists stand in each other as deep as scripts put them.
+//! Lists in lists, gone over depth first. The stack is the walk's own, since lists stand in each other as deep as scripts put them.
 //! A walk of more than 2^64 - 1 steps, which would take centuries, ends as want of memory.
+ghost use Rattle.std.specs.Prelude.{◌≡◌, ◌≤◌, ◌-◌, ◌+◌, ◌++◌, ◌∷◌, [], ℕ, List, length, map, IfOk, OnOk};
+ghost use Rattle.scons_rules.specs.Orders.{flattened, list_at, nothing_gone, with_member};
+ghost use Rattle.scons_rules.specs.Walks.{unwound, left_of, gone_of, Begins, Takes};
+
 use indexmap::IndexSet;
-use scons_base::Memory;
+use scons_base::{Listing, Memory};
+use scons_decls::Given;
 use std::alloc::Global;
 
 /// One item of a list: a member, or another list by its place.
-#[derive(Clone, Copy)]
+#[derive(Drop)]
 pub(crate) enum Step {
-    Member(usize),
-    List(usize),
-}
-
-/// The members of each list, those of a list in it in its place; each list and each member counts once.
-pub(crate) fn all_flattened(alloc: Global, lists: &[Vec<Step>]) -> Result<Vec<Vec<usize>>, Memory> {
-    let mut flat = Vec::new(alloc);
-    for _ in lists {
-        flat.push(None)?;
-    }
-    let order = inner_first(alloc, lists)?;
-    for place in &order {
-        let members = flattened(alloc, lists, flat.as_slice(), *place)?;
-        if let Some(there) = flat.get_mut(*place) {
-            *there = Some(members);
-        }
-    }
-    members_of(alloc, flat)
-}
-
-fn members_of(alloc: Global, flat: Vec<Option<Vec<usize>>>) -> Result<Vec<Vec<usize>>, Memory> {
-    let mut all = Vec::new(alloc);
-    for members in flat {
-        match members {
-            Some(members) => all.push(members)?,
-            None => all.push(Vec::new(alloc))?,
-        }
-    }
-    Ok(all)
+    Member(Given),
+    Inner(usize),
 }
 
 /// A walk down through lists.
 #[derive(Drop)]
-struct Walk<'a> {
+pub(crate) struct Walk<'a> {
+    /// The lists that were begun.
     met: IndexSet<usize>,
-    /// The lists that are gone over, the innermost last, each with what is left of it.
-    open: Vec<(usize, &'a [Step])>,
-    /// The lists that were gone over, inner ones first.
-    done: Vec<usize>,
-    members: IndexSet<usize>,
+    /// What is left of the lists that are gone over, the innermost last.
+    left: Vec<&'a [Step]>,
+    found: Vec<&'a Given>,
 }
 
-impl<'a> Walk<'a> {
-    fn new(alloc: Global) -> Walk<'a> {
+impl Walk<'_> {
+    fn new(alloc: Global) -> Self
+        ensures left { left_of result ≡ [] }
+        ensures gone { gone_of result ≡ nothing_gone }
+    {
         Walk {
             met: IndexSet::new(alloc),
-            open: Vec::new(alloc),
-            done: Vec::new(alloc),
-            members: IndexSet::new(alloc),
+            left: Vec::new(alloc),
+            found: Vec::new(alloc),
         }
-    }
-
-    /// Begins a list that wasn't met.
-    fn enter(&mut self, lists: &'a [Vec<Step>], place: usize) -> Result<(), Memory> {
-        let Some(list) = lists.get(place) else {
-            return Ok(());
-        };
-        if self.met.insert(place)? {
-            self.open.push((place, list.as_slice()))?;
-        }
-        Ok(())
-    }
-
-    /// The next item of the innermost list, or None where all lists are gone over. A list without a further item is done.
-    fn next(&mut self) -> Result<Option<Step>, Memory> {
-        'lists: for _ in 0..u64::MAX {
-            let Some((place, steps)) = self.open.pop() else {
-                return Ok(None);
-            };
-            if let [step, rest @ ..] = steps {
-                self.open.push((place, rest))?;
-                return Ok(Some(*step));
-            }
-            self.done.push(place)?;
-        }
-        Err(Memory)
     }
 }
 
-/// The places of all lists, those in a list in front of it.
-fn inner_first(alloc: Global, lists: &[Vec<Step>]) -> Result<Vec<usize>, Memory> {
-    let mut walk = Walk::new(alloc);
-    'lists: for place in 0..lists.len() {
-        walk.enter(lists, place)?;
-        go_down(&mut walk, lists)?;
-    }
-    let Walk { done, .. } = walk;
-    Ok(done)
-}
-
-fn go_down<'a>(walk: &mut Walk<'a>, lists: &'a [Vec<Step>]) -> Result<(), Memory> {
-    'steps: for _ in 0..u64::MAX {
-        match walk.next()? {
-            Some(Step::List(place)) => walk.enter(lists, place)?,
-            Some(Step::Member(_)) => {}
-            None => return Ok(()),
-        }
-    }
-    Err(Memory)
-}
-
-/// The members of one list. A list in it that is flattened isn't gone over again; only lists that hold each other are.
-fn flattened(
+/// The members of a list. Those of a list in it stand in its place, and a list that was begun before is passed over.
+pub(crate) fn flattened<'a>(
     alloc: Global,
-    lists: &[Vec<Step>],
-    flat: &[Option<Vec<usize>>],
+    lists: &'a [Listing<Step>],
     place: usize,
-) -> Result<Vec<usize>, Memory> {
+) -> Result<Vec<&'a Given>, Memory>
+    ensures { IfOk result (λ v. map (λ m. m.now) v.items ≡ flattened lists.now place) }
+{
     let mut walk = Walk::new(alloc);
-    walk.enter(lists, place)?;
-    take_all(&mut walk, lists, flat)?;
-    Ok(Vec::from_slice(alloc, walk.members.as_slice())?)
+    enter(&mut walk, lists, place)?;
+    go_over(&mut walk, lists)?;
+    let Walk { found, .. } = walk;
+    Ok(found)
 }
 
-fn take_all<'a>(
-    walk: &mut Walk<'a>,
-    lists: &'a [Vec<Step>],
-    flat: &[Option<Vec<usize>>],
-) -> Result<(), Memory> {
+/// Goes over all that is left.
+fn go_over<'a>(walk: &mut Walk<'a>, lists: &'a [Listing<Step>]) -> Result<(), Memory>
+    ensures { OnOk result (gone_of walk.new ≡ unwound lists.now (length lists.now) (left_of walk.old) (gone_of walk.old)) }
+{
     'steps: for _ in 0..u64::MAX {
-        match walk.next()? {
-            Some(step) => take(walk, lists, flat, step)?,
+        match walk.left.pop() {
+            Some(steps) => go_on(walk, lists, steps)?,
             None => return Ok(()),
         }
     }
     Err(Memory)
 }
 
-/// Puts a member behind those there, or those of a list that is flattened; another list is begun.
-fn take<'a>(
+/// Takes the first of these steps, which stood last on the stack.
+fn go_on<'a>(
     walk: &mut Walk<'a>,
-    lists: &'a [Vec<Step>],
-    flat: &[Option<Vec<usize>>],
-    step: Step,
-) -> Result<(), Memory> {
-    match step {
-        Step::Member(number) => {
-            walk.members.insert(number)?;
-            Ok(())
+    lists: &'a [Listing<Step>],
+    steps: &'a [Step],
+) -> Result<(), Memory>
+    ensures { let n = length lists.now in OnOk result (unwound lists.now n (left_of walk.new) (gone_of walk.new)
+        ≡ unwound lists.now n (left_of walk.old ++ steps.now ∷ []) (gone_of walk.old)) }
+{
+    match steps.split_first() {
+        Some((step, rest)) => {
+            walk.left.push(rest)?;
+            take(walk, lists, step)
         }
-        Step::List(place) => match flat.get(place) {
-            Some(Some(members)) => add_all(&mut walk.members, members.as_slice()),
-            _ => walk.enter(lists, place),
-        },
+        None => Ok(()),
     }
 }
 
-fn add_all(members: &mut IndexSet<usize>, more: &[usize]) -> Result<(), Memory> {
-    for number in more {
-        members.insert(*number)?;
+/// Takes a step, where what is left behind it stands last on the stack.
+fn take<'a>(walk: &mut Walk<'a>, lists: &'a [Listing<Step>], step: &'a Step) -> Result<(), Memory>
+    ensures { OnOk result (Takes lists.now step.now (left_of walk.old) (gone_of walk.old) (left_of walk.new) (gone_of walk.new)) }
+{
+    match step {
+        Step::Member(member) => find(walk, member),
+        Step::Inner(place) => enter(walk, lists, *place),
+    }
+}
+
+fn find<'a>(walk: &mut Walk<'a>, member: &'a Given) -> Result<(), Memory>
+    ensures left { left_of walk.new ≡ left_of walk.old }
+    ensures found { OnOk result (gone_of walk.new ≡ with_member (gone_of walk.old) member.now) }
+{
+    walk.found.push(member)?;
+    Ok(())
+}
+
+/// Begins the list at a place, unless it was begun before. More lists than there are don't stand in each other.
+fn enter<'a>(walk: &mut Walk<'a>, lists: &'a [Listing<Step>], place: usize) -> Result<(), Memory>
+    ensures fits { OnOk result (length (left_of walk.old) ≤ length lists.now) }
+    ensures enters { let n = length lists.now in OnOk result (unwound lists.now n (left_of walk.new) (gone_of walk.new)
+        ≡ unwound lists.now n (left_of walk.old)
+        (list_at lists.now (n - length (left_of walk.old) + 1) place (gone_of walk.old))) }
+{
+    if walk.left.len() > lists.len() {
+        return Err(Memory);
+    }
+    match lists.get(place) {
+        Some(list) => begin(walk, place, list.as_slice()),
+        None => Ok(()),
+    }
+}
+
+/// Begins a list, unless it was begun before.
+fn begin<'a>(walk: &mut Walk<'a>, place: usize, steps: &'a [Step]) -> Result<(), Memory>
+    ensures { OnOk result (Begins (left_of walk.old) (gone_of walk.old) place steps.now (left_of walk.new) (gone_of walk.new)) }
+{
+    if walk.met.insert(place)? {
+        walk.left.push(steps)?;
     }
     Ok(())
 }

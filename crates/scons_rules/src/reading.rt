@@ -1,18 +1,17 @@
 //! The declarations, gone over in their order.
-use crate::adding::work_of;
+
+use crate::above::dirs_above;
 use crate::aliases::Aliases;
 use crate::fault::RuleReadFault;
 use crate::libraries::{Wanted, wanted_by};
+use crate::locals::{RuleLocals, cplusplus_objects};
+use crate::one_rule::OneRule;
 use crate::said::SaidOf;
-use crate::shell::{refuse_for_shell, refuse_path_for_shell};
-use crate::sources::{named_all, named_settled};
-use env_subst::Named;
 use indexmap::IndexSet;
 use rule_graph::Graph;
-use scons_base::{Listing, Memory, PathText, Text};
-use scons_decls::{Declaration, Declarations, Language, Place, Recipe, language_of};
+use scons_base::{Listing, Memory, PathText};
+use scons_decls::{Declaration, Declarations, Place, Recipe};
 use std::alloc::Global;
-use world_api::Work;
 
 /// The rules of a reading on their way into the graph.
 #[derive(Drop)]
@@ -24,6 +23,8 @@ pub struct RuleReading {
     pub(crate) said: SaidOf,
     /// The objects that are made of C++ sources.
     cplusplus: IndexSet<PathText>,
+    /// The directories that have targets below them.
+    pub(crate) dirs: IndexSet<PathText>,
 }
 
 impl RuleReading {
@@ -32,6 +33,7 @@ impl RuleReading {
         let aliases = Aliases::new(alloc, &state)?;
         let said = SaidOf::new(alloc, &state, &aliases)?;
         let cplusplus = cplusplus_objects(alloc, state.rules.as_slice())?;
+        let dirs = dirs_above(alloc, state.rules.as_slice())?;
         let graph = Graph::new(alloc, state.locals.top.copy()?)?;
         Ok(RuleReading {
             alloc,
@@ -40,6 +42,7 @@ impl RuleReading {
             aliases,
             said,
             cplusplus,
+            dirs,
         })
     }
 
@@ -55,126 +58,65 @@ impl RuleReading {
 
     /// Where the first rule of a target was declared.
     pub fn place_of_target(&self, target: &PathText) -> Option<Place> {
-        let rules = self.state.rules.as_slice();
-        let rule = rules
-            .iter()
-            .find(|rule| has(rule.targets.as_slice(), target))?;
-        Some(rule.place)
+        Some(first_rule(self.state.rules.as_slice(), target)?.place)
     }
 
-    /// The libraries that a rule names: only a program names any.
-    pub fn wanted(&mut self, number: usize) -> Result<Listing<Wanted>, RuleReadFault> {
-        if !self.begin(number)? {
-            return Ok(Listing::empty(self.alloc));
+    /// What the lines of a rule know, of no rule yet.
+    pub fn locals(&self) -> Result<RuleLocals, Memory> {
+        RuleLocals::new(self.alloc, &self.state)
+    }
+
+    /// Makes them those of the rule of a number.
+    pub fn begin(&self, number: usize, locals: &mut RuleLocals) -> Result<(), RuleReadFault> {
+        match self.state.rules.get(number) {
+            Some(declared) => {
+                locals.begin(
+                    self.alloc,
+                    &self.state,
+                    &self.dirs,
+                    declared,
+                    &self.cplusplus,
+                )
+            }
+            None => Ok(()),
         }
-        let state = &self.state;
-        match state.rules.get(number) {
-            Some(declaration) => wanted_by(self.alloc, state, declaration.env),
+    }
+
+    /// The libraries that the rule of a number and of these locals names: only a program names any.
+    pub fn wanted(
+        &self,
+        number: usize,
+        locals: &RuleLocals,
+    ) -> Result<Listing<Wanted>, RuleReadFault> {
+        match OneRule::at(self.alloc, &self.state, number, &locals.locals, &self.dirs) {
+            Some(rule) => wanted_of(&rule),
             None => Ok(Listing::empty(self.alloc)),
         }
     }
+}
 
-    /// Makes a rule the one whose lines are expanded; tells whether it links a program.
-    fn begin(&mut self, number: usize) -> Result<bool, RuleReadFault> {
-        let state = &self.state;
-        let Some(declaration) = state.rules.get(number) else {
-            return Ok(false);
-        };
-        let is_program = matches!(declaration.recipe, Recipe::Program);
-        let smartlink = smartlink_of(&self.cplusplus, declaration);
-        let dir = new_dir(state, &declaration.dir)?;
-        let smartlink = new_smartlink(state, smartlink)?;
-        let sources = named_settled(self.alloc, state, declaration.sources.as_slice())?;
-        refuse_in_lines(sources.as_slice(), declaration)?;
-        let targets = named_all(self.alloc, state, declaration.targets.as_slice())?;
-        let locals = &mut self.state.locals;
-        locals.sources = sources;
-        locals.targets = targets;
-        if let Some(dir) = dir {
-            locals.dir = dir;
+fn wanted_of(rule: &OneRule<'_>) -> Result<Listing<Wanted>, RuleReadFault> {
+    match rule.declared.recipe {
+        Recipe::Program => wanted_by(rule),
+        _ => Ok(Listing::empty(rule.alloc)),
+    }
+}
+
+/// The first of these rules that has a target.
+fn first_rule<'a>(rules: &'a [Declaration], target: &PathText) -> Option<&'a Declaration> {
+    for rule in rules {
+        if has(rule.targets.as_slice(), target) {
+            return Some(rule);
         }
-        if let Some(smartlink) = smartlink {
-            locals.smartlink = smartlink;
-        }
-        Ok(is_program)
     }
-}
-
-/// A rule's directory, where it is another than that of the rule before.
-fn new_dir(state: &Declarations, dir: &PathText) -> Result<Option<PathText>, Memory> {
-    if state.locals.dir == *dir {
-        Ok(None)
-    } else {
-        Ok(Some(dir.copy()?))
-    }
-}
-
-/// The same of what `$SMARTLINK` stands for.
-fn new_smartlink(state: &Declarations, smartlink: &str) -> Result<Option<Text>, Memory> {
-    if state.locals.smartlink.as_str() == smartlink {
-        Ok(None)
-    } else {
-        Ok(Some(Text::of(state.alloc, smartlink)?))
-    }
-}
-
-/// Refuses what of a rule's sources and targets the shell would act on.
-fn refuse_in_lines(sources: &[Named], declaration: &Declaration) -> Result<(), RuleReadFault> {
-    if !matches!(work_of(declaration), Work::Shell) {
-        return Ok(());
-    }
-    for source in sources {
-        refuse_path_for_shell(&source.path)?;
-    }
-    refuse_for_shell(declaration.targets.as_slice())
+    None
 }
 
 fn has(paths: &[PathText], path: &PathText) -> bool {
-    paths.iter().any(|one| one == path)
-}
-
-fn smartlink_of(objects: &IndexSet<PathText>, declaration: &Declaration) -> &'static str {
-    if has_cplusplus(objects, declaration.sources.as_slice()) {
-        "$CXX"
-    } else {
-        "$CC"
-    }
-}
-
-/// Whether one of these is a C++ source or an object of one.
-fn has_cplusplus(objects: &IndexSet<PathText>, sources: &[PathText]) -> bool {
-    for source in sources {
-        if language_of(source) == Some(Language::CPlusPlus) || objects.contains(source) {
+    for one in paths {
+        if path == one {
             return true;
         }
     }
     false
-}
-
-fn cplusplus_objects(alloc: Global, rules: &[Declaration]) -> Result<IndexSet<PathText>, Memory> {
-    let mut objects = IndexSet::new(alloc);
-    for rule in rules {
-        if is_cplusplus_object(rule) {
-            add_all(&mut objects, rule.targets.as_slice())?;
-        }
-    }
-    Ok(objects)
-}
-
-fn is_cplusplus_object(rule: &Declaration) -> bool {
-    matches!(rule.recipe, Recipe::Object) && is_cplusplus_source(rule.sources.as_slice())
-}
-
-pub(crate) fn is_cplusplus_source(sources: &[PathText]) -> bool {
-    match sources.first() {
-        Some(source) => language_of(source) == Some(Language::CPlusPlus),
-        None => false,
-    }
-}
-
-fn add_all(objects: &mut IndexSet<PathText>, paths: &[PathText]) -> Result<(), Memory> {
-    for path in paths {
-        objects.insert(path.copy()?)?;
-    }
-    Ok(())
 }

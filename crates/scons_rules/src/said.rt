@@ -1,4 +1,10 @@
 //! What was said of each target.
+ghost use Rattle.std.specs.Prelude.{◌≡◌, ◌++◌, ◌∷◌, [], ℕ, List, IfOk, OnOk, fold, map, slice_get};
+ghost use Rattle.std.specs.List.{filter, filter_map};
+ghost use Rattle.std.specs.Str.{bytes_eq};
+ghost use Rattle.scons_rules.specs.AliasTable.{names_in};
+ghost use Rattle.scons_rules.specs.Sayings.{Spoken, Tells, nothing_said, numbers_at, sentences_at, said_of, spoken_in, with_sentence};
+
 use crate::aliases::Aliases;
 use indexmap::IndexMap;
 use scons_base::{Memory, PathText, Paths};
@@ -7,7 +13,7 @@ use std::alloc::Global;
 
 /// Each call that says something, with the files that it names.
 #[derive(Drop)]
-struct Sentence {
+pub(crate) struct Sentence {
     saying: Saying,
     nodes: Paths,
 }
@@ -33,7 +39,9 @@ impl SaidOf {
         alloc: Global,
         state: &Declarations,
         aliases: &Aliases,
-    ) -> Result<SaidOf, Memory> {
+    ) -> Result<SaidOf, Memory>
+        ensures { IfOk result (Tells (spoken_in (names_in state.now.aliases) aliases.now state.now.said.items)) }
+    {
         let mut said = SaidOf {
             sentences: Vec::new(alloc),
             by_target: IndexMap::new(alloc),
@@ -45,7 +53,10 @@ impl SaidOf {
         Ok(said)
     }
 
-    fn add(&mut self, alloc: Global, said: &Said, nodes: Paths) -> Result<(), Memory> {
+    fn add(&mut self, alloc: Global, said: &Said, nodes: Paths) -> Result<(), Memory>
+        ensures { OnOk result ((spoken : Spoken) → Tells spoken self.old
+            → Tells (spoken ++ (said.now.targets, record { saying = said.now.saying; nodes = nodes }) ∷ []) self.new) }
+    {
         let number = self.sentences.len();
         self.sentences.push(Sentence {
             saying: said.saying,
@@ -57,7 +68,12 @@ impl SaidOf {
         Ok(())
     }
 
-    fn note(&mut self, alloc: Global, target: &PathText, number: usize) -> Result<(), Memory> {
+    /// Notes that a sentence names a target.
+    fn note(&mut self, alloc: Global, target: &PathText, number: usize) -> Result<(), Memory>
+        ensures numbers { OnOk result ((path : List ℕ) → numbers_at self.new path
+            ≡ numbers_at self.old path ++ map (λ _. number) (filter (bytes_eq path) (target.now ∷ []))) }
+        ensures sentences { self.new.sentences ≡ self.old.sentences }
+    {
         match self.by_target.get_mut(target) {
             Some(numbers) => numbers.push(number)?,
             None => {
@@ -70,7 +86,9 @@ impl SaidOf {
     }
 
     /// What was said of these targets, in order.
-    pub(crate) fn of_rule(&self, alloc: Global, targets: &[PathText]) -> Result<OfRule, Memory> {
+    pub(crate) fn of_rule(&self, alloc: Global, targets: &[PathText]) -> Result<OfRule, Memory>
+        ensures { IfOk result (λ r. (spoken : Spoken) → Tells spoken self.now → r ≡ said_of spoken targets.now) }
+    {
         let mut of_rule = OfRule {
             depends: Paths::new(Vec::new(alloc)),
             required: Paths::new(Vec::new(alloc)),
@@ -83,20 +101,31 @@ impl SaidOf {
         Ok(of_rule)
     }
 
-    fn add_said(&self, of_rule: &mut OfRule, target: &PathText) -> Result<(), Memory> {
+    fn add_said(&self, of_rule: &mut OfRule, target: &PathText) -> Result<(), Memory>
+        ensures { OnOk result (of_rule.new ≡ fold with_sentence of_rule.old (sentences_at self.now target.now)) }
+    {
         let Some(numbers) = self.by_target.get(target) else {
             return Ok(());
         };
         for number in numbers {
-            if let Some(sentence) = self.sentences.get(*number) {
-                add_sentence(of_rule, sentence)?;
-            }
+            add_numbered(of_rule, self.sentences.as_slice(), *number)?;
         }
         Ok(())
     }
 }
 
-fn add_sentence(of_rule: &mut OfRule, sentence: &Sentence) -> Result<(), Memory> {
+fn add_numbered(of_rule: &mut OfRule, sentences: &[Sentence], number: usize) -> Result<(), Memory>
+    ensures { OnOk result (of_rule.new ≡ fold with_sentence of_rule.old (filter_map (slice_get sentences.now) (number ∷ []))) }
+{
+    match sentences.get(number) {
+        Some(sentence) => add_sentence(of_rule, sentence),
+        None => Ok(()),
+    }
+}
+
+fn add_sentence(of_rule: &mut OfRule, sentence: &Sentence) -> Result<(), Memory>
+    ensures { OnOk result (of_rule.new ≡ with_sentence of_rule.old sentence.now) }
+{
     let nodes = sentence.nodes.as_slice();
     match sentence.saying {
         Saying::Depends => push_copies(&mut of_rule.depends, nodes),
@@ -109,7 +138,9 @@ fn add_sentence(of_rule: &mut OfRule, sentence: &Sentence) -> Result<(), Memory>
     }
 }
 
-fn push_copies(paths: &mut Paths, more: &[PathText]) -> Result<(), Memory> {
+fn push_copies(paths: &mut Paths, more: &[PathText]) -> Result<(), Memory>
+    ensures { OnOk result (paths.new ≡ paths.old ++ more.now) }
+{
     for path in more {
         paths.push(path.copy()?)?;
     }

@@ -1,11 +1,11 @@
 //! What a rule that writes signs: the text, or how it is made of the rule's sources.
+
 use crate::fault::RuleReadFault;
-use env_subst::{Mode, SubstFault};
+use crate::one_rule::OneRule;
 use scons_base::limits::FILE_LIMIT;
-use scons_base::{Blob, EnvId, Memory, Text, Texts};
-use scons_decls::{Declarations, NameFault};
+use scons_base::{Blob, Memory, Text, Texts};
 use std::alloc::Global;
-use text_files::{TextRefusal, write_bytes};
+use text_files::write_bytes;
 use world_api::Content;
 
 /// What stands between the texts of a Textfile, and between the sources of a Substfile.
@@ -13,40 +13,46 @@ const BETWEEN: &str = "\n";
 
 /// What a Substfile of so many sources signs: their number, what stands between them, and each key with its value.
 pub(crate) fn substituting(
-    alloc: Global,
-    state: &Declarations,
-    env: EnvId,
+    rule: &OneRule<'_>,
     sources: usize,
     pairs: &[(Text, Text)],
 ) -> Result<Texts, RuleReadFault> {
-    let mut signed = Texts::new(Vec::new(alloc));
-    signed.push(Text::new(format!(in alloc; "{sources}")?))?;
-    signed.push(Text::of(alloc, BETWEEN)?)?;
+    let mut signed = joining(rule.alloc, sources)?;
     for (key, value) in pairs {
-        signed.push(key.copy()?)?;
-        signed.push(
-            state
-                .envs
-                .subst(env, value.as_str(), &state.locals, Mode::Text)?,
-        )?;
+        let value = rule.text(value.as_str())?;
+        push_pair(&mut signed, key, value)?;
     }
     Ok(signed)
 }
 
+/// How so many sources are joined.
+fn joining(alloc: Global, sources: usize) -> Result<Texts, Memory> {
+    let mut signed = Texts::new(Vec::new(alloc));
+    signed.push(Text::new(format!(in alloc; "{sources}")?))?;
+    signed.push(Text::of(alloc, BETWEEN)?)?;
+    Ok(signed)
+}
+
+fn push_pair(signed: &mut Texts, key: &Text, value: Text) -> Result<(), Memory> {
+    signed.push(key.copy()?)?;
+    signed.push(value)
+}
+
 /// What a Textfile signs: what a write makes of its texts in the place of files.
 pub(crate) fn written(
-    alloc: Global,
-    state: &Declarations,
-    env: EnvId,
+    rule: &OneRule<'_>,
     texts: &[Text],
     pairs: &[(Text, Text)],
 ) -> Result<Texts, RuleReadFault> {
-    let signed = substituting(alloc, state, env, texts.len(), pairs)?;
+    let signed = substituting(rule, texts.len(), pairs)?;
+    let text = text_of(rule.alloc, made_of(rule.alloc, texts, &signed)?)?;
+    Ok(one_text(rule.alloc, text)?)
+}
+
+/// What a write makes of texts in the place of files.
+fn made_of(alloc: Global, texts: &[Text], signed: &Texts) -> Result<Content, RuleReadFault> {
     let given = contents_of(alloc, texts)?;
-    let content = write_bytes(alloc, signed.as_slice(), given.as_slice(), FILE_LIMIT)?;
-    let mut written = Texts::new(Vec::new(alloc));
-    written.push(text_of(alloc, content)?)?;
-    Ok(written)
+    Ok(write_bytes(alloc, signed.as_slice(), given.as_slice(), FILE_LIMIT)?)
 }
 
 fn contents_of(alloc: Global, texts: &[Text]) -> Result<Vec<Content>, Memory> {
@@ -58,23 +64,18 @@ fn contents_of(alloc: Global, texts: &[Text]) -> Result<Vec<Content>, Memory> {
 }
 
 /// A content that is made of texts is a text.
-fn text_of(alloc: Global, content: Content) -> Result<Text, RuleReadFault> {
+fn text_of(alloc: Global, content: Content) -> Result<Text, Memory> {
     let Some(bytes) = content else {
-        return Ok(Text::of(alloc, "")?);
+        return Text::of(alloc, "");
     };
     match String::from_utf8(bytes.into_vec()) {
         Ok(text) => Ok(Text::new(text)),
-        Err(_) => Err(RuleReadFault::Memory),
+        Err(_) => Err(Memory),
     }
 }
 
-impl From<TextRefusal> for RuleReadFault {
-    fn from(refusal: TextRefusal) -> Self {
-        match refusal {
-            TextRefusal::TooLarge(bytes) => {
-                RuleReadFault::Name(NameFault::Subst(SubstFault::TooLong(bytes)))
-            }
-            TextRefusal::Memory => RuleReadFault::Memory,
-        }
-    }
+fn one_text(alloc: Global, text: Text) -> Result<Texts, Memory> {
+    let mut texts = Texts::new(Vec::new(alloc));
+    texts.push(text)?;
+    Ok(texts)
 }

@@ -1,25 +1,19 @@
-use Rattle.std.proofs.Common.{arith, length}
-use Rattle.scons_rules.proofs.NodeLemmas.{below_more}
+use Rattle.std.proofs.Common.{◌∙◌, length}
+use Rattle.scons_rules.proofs.Naming.{all_got, all_named, all_nodes}
 use Rattle.scons_rules.proofs.adding.rule_nodes.Goals as goal
 
-pub returns : goal.returns
-returns c = record {
-  has_target = (c.in_ok-targets.ensures {u = tt}).some (rw c.as_slice.ensures c.requires);
-  distinct = (c.in_ok-targets.ensures {u = tt}).distinct;
-  targets =
-      below_more (length c.nodes_of.new.graph.nodes) (length c.settled_nodes-3.new.graph.nodes) c.in_ok-targets.targets
-      (omega (arith, c.nodes_of-2.ensures.keeps, c.nodes_of-3.ensures.keeps, c.settled_nodes.ensures.keeps, c.settled_nodes-2.ensures.keeps, c.settled_nodes-3.ensures.keeps)) (c.in_ok-targets.ensures {u = tt}).below;
-  sources =
-      below_more (length c.nodes_of-2.new.graph.nodes) (length c.settled_nodes-3.new.graph.nodes) c.in_ok-sources.sources
-      (omega (arith, c.nodes_of-3.ensures.keeps, c.settled_nodes.ensures.keeps, c.settled_nodes-2.ensures.keeps, c.settled_nodes-3.ensures.keeps)) (c.in_ok-sources.ensures {u = tt}).below;
-  libs =
-      below_more (length c.nodes_of-3.new.graph.nodes) (length c.settled_nodes-3.new.graph.nodes) c.in_ok-libs.libs
-      (omega (arith, c.settled_nodes.ensures.keeps, c.settled_nodes-2.ensures.keeps, c.settled_nodes-3.ensures.keeps)) (c.in_ok-libs.ensures {u = tt}).below;
-  depends =
-      below_more (length c.settled_nodes.new.graph.nodes) (length c.settled_nodes-3.new.graph.nodes) c.in_ok-depends.depends
-      (omega (arith, c.settled_nodes-2.ensures.keeps, c.settled_nodes-3.ensures.keeps)) (c.in_ok-depends.ensures {u = tt}).below;
-  required =
-      below_more (length c.settled_nodes-2.new.graph.nodes) (length c.settled_nodes-3.new.graph.nodes) c.in_ok-required.required
-      (omega (arith, c.settled_nodes-3.ensures.keeps)) (c.in_ok-required.ensures {u = tt}).below;
-  ignored = (c.in_ok-ignored.ensures {u = tt}).below;
-}
+pub returns-clause-ok : goal.returns-clause-ok
+returns-clause-ok c =
+    all_got _ _ _ _ _ _ _ _ _ _ _ _ _ c.in_ok-targets.ensures.ok c.in_ok-sources.ensures.ok c.in_ok-libs.ensures.ok
+    (rw c.as_slice.ensures at c.in_ok-depends.ensures.ok) (rw c.as_slice-2.ensures at c.in_ok-required.ensures.ok) (rw c.as_slice-3.ensures at c.in_ok-ignored.ensures.ok)
+
+pub returns-clause-named : goal.returns-clause-named
+returns-clause-named c =
+    all_named _ _ _ _ _ _ _ c.args.paths.now _ c.in_ok-targets.ensures.nodes c.in_ok-sources.ensures.nodes c.in_ok-libs.ensures.nodes
+    (rw c.as_slice.ensures at c.in_ok-depends.ensures.nodes) (rw c.as_slice-2.ensures at c.in_ok-required.ensures.nodes) (rw c.as_slice-3.ensures at c.in_ok-ignored.ensures.nodes)
+
+pub returns-clause-nodes : goal.returns-clause-nodes
+returns-clause-nodes c =
+    all_nodes _ _ _ _ _ _ _ c.args.paths.now _ c.in_ok-targets.ensures.nodes c.in_ok-sources.ensures.nodes c.in_ok-libs.ensures.nodes
+    (rw c.as_slice.ensures at c.in_ok-depends.ensures.nodes) (rw c.as_slice-2.ensures at c.in_ok-required.ensures.nodes) (rw c.as_slice-3.ensures at c.in_ok-ignored.ensures.nodes)
+    (c.in_ok-targets.ensures.some c.requires)

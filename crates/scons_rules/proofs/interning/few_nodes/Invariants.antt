@@ -1,11 +1,9 @@
-use Rattle.std.proofs.Common.{◌≡◌, ◌<◌, ◌≤◌, true, length}
-use Rattle.rule_graph.specs.Rules.{are_below, are_distinct}
+use Rattle.std.proofs.Common.{◌≡◌, map, take}
+use Rattle.scons_rules.specs.Numbers.{each_once, Numbers}
 use Rattle.scons_rules.proofs.interning.few_nodes.Given as goal
 
-abbrev pub invariant-loop-path : goal.invariant-loop-path
-invariant-loop-path g l = record {
-  distinct : are_distinct l.nodes ≡ true;
-  below : are_below (length l.graph.nodes) l.nodes ≡ true;
-  some : 0 < l.path-index → 0 < length l.nodes;
-  keeps : length l.initial.graph.nodes ≤ length l.graph.nodes;
+abbrev pub invariant-loop-place : goal.invariant-loop-place
+invariant-loop-place g l = record {
+  numbers : Numbers l.initial.graph.nodes l.graph.nodes (each_once (map g.T.HasPath.path_at (take l.place l.paths))) l.nodes;
+  rest : l.graph ≡ record l.initial.graph { nodes = l.graph.nodes };
 }

@@ -1,12 +1,10 @@
-use Rattle.std.proofs.Common.{◌≡◌, ◌<◌, ◌≤◌, true, length}
-use Rattle.rule_graph.specs.Rules.{are_below}
-use Rattle.scons_rules.specs.Numbers.{AreNoted}
+use Rattle.std.proofs.Common.{◌≡◌, map, take}
+use Rattle.scons_rules.specs.Numbers.{each_once, Numbers}
 use Rattle.scons_rules.proofs.interning.many_nodes.Given as goal
 
-abbrev pub invariant-loop-path : goal.invariant-loop-path
-invariant-loop-path g l = record {
-  noted : AreNoted l.seen.keys l.nodes;
-  below : are_below (length l.graph.nodes) l.nodes ≡ true;
-  some : 0 < l.path-index → 0 < length l.nodes;
-  keeps : length l.initial.graph.nodes ≤ length l.graph.nodes;
+abbrev pub invariant-loop-one : goal.invariant-loop-one
+invariant-loop-one g l = record {
+  numbers : Numbers l.initial.graph.nodes l.graph.nodes (each_once (map g.T.HasPath.path_at (take l.one-index l.paths))) l.nodes;
+  seen : map (λ p. p.now) l.seen.keys ≡ each_once (map g.T.HasPath.path_at (take l.one-index l.paths));
+  rest : l.graph ≡ record l.initial.graph { nodes = l.graph.nodes };
 }
