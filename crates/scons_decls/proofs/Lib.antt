@@ -1,3 +1,5 @@
 pub mod Searching
 pub mod Stepping
 pub mod Rows
+pub mod Above
+pub mod Noted
