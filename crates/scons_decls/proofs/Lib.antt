@@ -3,3 +3,4 @@ pub mod Stepping
 pub mod Rows
 pub mod Above
 pub mod Noted
+pub mod Matching

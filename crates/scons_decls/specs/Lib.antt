@@ -10,3 +10,4 @@ pub mod State
 pub mod Paths
 pub mod Scripts
 pub mod Languages
+pub mod Patterns
