@@ -11,3 +11,4 @@ pub mod Paths
 pub mod Scripts
 pub mod Languages
 pub mod Patterns
+pub mod Globs
