@@ -1,3 +1,7 @@
 pub mod Searching
 pub mod Stepping
 pub mod Rows
+pub mod Matching
+pub mod Above
+pub mod Noted
+pub mod Globbing

@@ -10,3 +10,5 @@ pub mod State
 pub mod Paths
 pub mod Scripts
 pub mod Languages
+pub mod Patterns
+pub mod Globs

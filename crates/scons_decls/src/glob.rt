@@ -1,16 +1,28 @@
 //! Glob: the files and targets of one directory whose names fit a pattern.
+ghost use Rattle.std.specs.Prelude.{◌≡◌, ◌≢◌, ◌<◌, ◌≤◌, ◌-◌, [], length, slice_index, Ok, Err, IfOk, IfErr, OnOk, option_copied, unwrap_or};
+ghost use Rattle.std.specs.List.{filter_map};
+ghost use Rattle.std.specs.Option.{option_to_list};
+ghost use Rattle.std.specs.Str.{bytes_eq, IsCharBoundary};
+ghost use Rattle.indexmap.specs.IndexSet.{insert_all};
+ghost use Rattle.scons_base.specs.Normal.{slash};
+ghost use Rattle.scons_base.specs.Parts.{behind_last, dir_of, name_of};
+ghost use Rattle.scons_decls.specs.Globs as spec;
+ghost use Rattle.scons_decls.specs.State.{declared_of};
+
 use crate::declarations::Declarations;
 use crate::expand::{as_nodes, bad_argument, expanded, path_at};
 use crate::fault::NameFault;
 use crate::given::Nodes;
 use crate::pattern::{Pattern, has_wildcard};
+use crate::targets::Targets;
 use env_subst::Mode;
 use indexmap::IndexSet;
-use scons_base::{EnvId, PathText, Paths, Text};
+use scons_base::{EnvId, Memory, PathText, Paths, Text};
+use std::alloc::Global;
 
-/// A pattern's directory and its last part.
+/// What a pattern looks for: names that fit, in one directory.
 #[derive(Drop)]
-struct Place {
+pub(crate) struct Search {
     dir: PathText,
     pattern: Pattern,
 }
@@ -18,123 +30,223 @@ struct Place {
 impl Declarations {
     /// The directories whose files `glob` is to be given: the pattern's own and, in a variant directory, its source. In a
     /// variant directory with copies it is the source alone, since a copy whose source is gone counts for nothing.
-    pub fn glob_dirs(&self, env: EnvId, pattern: &Text) -> Result<Paths, NameFault> {
-        let place = place_of(self, env, pattern)?;
-        let mut dirs = Paths::new(Vec::new(self.alloc));
-        match source_of(self, &place.dir)? {
-            Some(source) if self.is_copied(&place.dir) => dirs.push(source)?,
-            Some(source) => {
-                dirs.push(source)?;
-                dirs.push(place.dir)?;
-            }
-            None => dirs.push(place.dir)?,
-        }
-        Ok(dirs)
+    pub fn glob_dirs(&self, env: EnvId, pattern: &Text) -> Result<Paths, NameFault>
+        ensures ok { IfOk result (λ dirs. spec.glob_dirs (declared_of self.now) env.0 pattern.now ≡ Ok dirs) }
+        ensures fault { IfErr result (λ e. e ≢ NameFault.Memory
+            → spec.glob_dirs (declared_of self.now) env.0 pattern.now ≡ Err e) }
+    {
+        let search = search_of(self, env, pattern)?;
+        let source = source_of(self, &search.dir)?;
+        let copied = self.is_copied(&search.dir);
+        Ok(dirs_with(self.alloc, search.dir, source, copied)?)
     }
 
     /// The files of a directory and the targets declared so far there whose names fit, in byte order. In a variant
     /// directory the files and targets of its source count too, and are named on the variant side.
-    pub fn glob(&self, env: EnvId, pattern: &Text, files: &Paths) -> Result<Nodes, NameFault> {
-        let place = place_of(self, env, pattern)?;
-        let source = source_of(self, &place.dir)?;
-        let mut found = IndexSet::new(self.alloc);
-        if let Some(targets) = self.made.in_dir(&place.dir) {
-            add_fitting(self, &mut found, &place, None, targets.as_slice())?;
-        }
-        if let Some(source) = &source {
-            add_made_in(self, &mut found, &place, source)?;
-        }
-        add_fitting(self, &mut found, &place, source.as_ref(), files.as_slice())?;
-        let mut paths = copies(self, found.as_slice())?;
+    pub fn glob(&self, env: EnvId, pattern: &Text, files: &Paths) -> Result<Nodes, NameFault>
+        ensures ok { IfOk result (spec.IsGlobbed (declared_of self.now) env.0 pattern.now files.now) }
+        ensures fault { IfErr result (λ e. e ≢ NameFault.Memory
+            → spec.search_of (declared_of self.now) env.0 pattern.now ≡ Err e) }
+    {
+        let search = search_of(self, env, pattern)?;
+        let source = source_of(self, &search.dir)?;
+        let mut paths = meant_by(self, &search, source.as_ref(), files)?;
         paths.sort()?;
         as_nodes(self, paths.as_slice())
     }
 }
 
-/// Adds the declared targets of a place's source that fit.
-fn add_made_in(
+fn search_of(state: &Declarations, env: EnvId, pattern: &Text) -> Result<Search, NameFault>
+    ensures ok { IfOk result (λ s. spec.search_of (declared_of state.now) env.0 pattern.now ≡ Ok s) }
+    ensures fault { IfErr result (λ e. e ≢ NameFault.Memory
+        → spec.search_of (declared_of state.now) env.0 pattern.now ≡ Err e) }
+{
+    let text = expanded(state, env, pattern.as_str(), Mode::Text)?;
+    search_at(state, text.as_str())
+}
+
+/// What an expanded text looks for.
+fn search_at(state: &Declarations, text: &str) -> Result<Search, NameFault>
+    ensures ok { IfOk result (λ s. spec.search_at (declared_of state.now) text.now ≡ Ok s) }
+    ensures fault { IfErr result (λ e. e ≢ NameFault.Memory
+        → spec.search_at (declared_of state.now) text.now ≡ Err e) }
+{
+    let (dir, name) = (front(text), last(text));
+    if has_wildcard(dir) || name.is_empty() {
+        return Err(bad_argument(state, "Glob"));
+    }
+    let dir = path_at(state, dir)?;
+    let pattern = Pattern::read(state.alloc, name)?;
+    Ok(Search { dir, pattern })
+}
+
+/// The directory part of a text.
+fn front(text: &str) -> &str
+    ensures { result.now ≡ dir_of text.now }
+{
+    match behind_slash(text) {
+        0 => ".",
+        1 => "/",
+        behind => &text[..behind - 1],
+    }
+}
+
+/// Its last part.
+fn last(text: &str) -> &str
+    ensures { result.now ≡ name_of text.now }
+{
+    &text[behind_slash(text)..]
+}
+
+/// The place behind the last slash, 0 where there is none.
+fn behind_slash(text: &str) -> usize
+    ensures place { result ≡ behind_last slash text.now }
+    ensures bound { result ≤ length text.now }
+    ensures found { 0 < result → slice_index text.now (result - 1) ≡ slash }
+    ensures boundary { IsCharBoundary text.now result }
+{
+    let bytes = text.as_bytes();
+    let mut behind = bytes.len();
+    while behind > 0 && bytes[behind - 1] != b'/' {
+        behind -= 1;
+    }
+    behind
+}
+
+/// The source of a directory, where that lies in no variant directory itself.
+fn source_of(state: &Declarations, dir: &PathText) -> Result<Option<PathText>, Memory>
+    ensures { IfOk result (λ s. s ≡ spec.source_of (declared_of state.now) dir.now) }
+{
+    let variants = &state.locals.variants;
+    match variants.source_of(&state.locals.top, dir)? {
+        Some(source) => match variants.variant_of(&source) {
+            Some(_) => Ok(None),
+            None => Ok(Some(source)),
+        },
+        None => Ok(None),
+    }
+}
+
+fn dirs_with(
+    alloc: Global,
+    dir: PathText,
+    source: Option<PathText>,
+    copied: bool,
+) -> Result<Paths, Memory>
+    ensures { IfOk result (λ dirs. dirs ≡ spec.dirs_with dir source copied) }
+{
+    let mut dirs = Paths::new(Vec::new(alloc));
+    match source {
+        Some(source) if copied => dirs.push(source)?,
+        Some(source) => {
+            dirs.push(source)?;
+            dirs.push(dir)?;
+        }
+        None => dirs.push(dir)?,
+    }
+    Ok(dirs)
+}
+
+/// The paths that are meant, each once: of targets in the directory and in its source, and of files.
+fn meant_by(
     state: &Declarations,
-    found: &mut IndexSet<PathText>,
-    place: &Place,
-    source: &PathText,
-) -> Result<(), NameFault> {
-    match state.made.in_dir(source) {
-        Some(targets) => add_fitting(state, found, place, Some(source), targets.as_slice()),
+    search: &Search,
+    source: Option<&PathText>,
+    files: &Paths,
+) -> Result<IndexSet<PathText>, Memory>
+    ensures { IfOk result (λ paths. paths.keys ≡ insert_all bytes_eq []
+        (spec.meant_by (declared_of state.now) search.now (option_copied source.entry) files.now)) }
+{
+    let alloc = state.alloc;
+    let here = state.made.in_dir(&search.dir);
+    let beside = targets_beside(state, source);
+    let mut paths = IndexSet::new(alloc);
+    add_targets(alloc, search, source, here, &mut paths)?;
+    add_targets(alloc, search, source, beside, &mut paths)?;
+    add_found(alloc, search, source, files.as_slice(), &mut paths)?;
+    Ok(paths)
+}
+
+/// The targets in the source of a directory.
+fn targets_beside<'a>(state: &'a Declarations, source: Option<&PathText>) -> Option<&'a Targets>
+    ensures { unwrap_or (option_copied result) [] ≡ spec.targets_beside (declared_of state.now) (option_copied source.entry) }
+{
+    match source {
+        Some(source) => state.made.in_dir(source),
+        None => None,
+    }
+}
+
+fn add_targets(
+    alloc: Global,
+    search: &Search,
+    source: Option<&PathText>,
+    targets: Option<&Targets>,
+    paths: &mut IndexSet<PathText>,
+) -> Result<(), Memory>
+    ensures { OnOk result (paths.new.keys ≡ insert_all bytes_eq paths.old.keys
+        (filter_map (spec.found search.now (option_copied source.entry)) (unwrap_or (option_copied targets.entry) []))) }
+{
+    match targets {
+        Some(targets) => add_found(alloc, search, source, targets.as_slice(), paths),
         None => Ok(()),
     }
 }
 
-fn copies(state: &Declarations, paths: &[PathText]) -> Result<Vec<PathText>, NameFault> {
-    let mut copies = Vec::new(state.alloc);
-    for path in paths {
-        copies.push(path.copy()?)?;
-    }
-    Ok(copies)
-}
-
-/// The source of a directory, where that lies in no variant directory itself.
-fn source_of(state: &Declarations, dir: &PathText) -> Result<Option<PathText>, NameFault> {
-    let variants = &state.locals.variants;
-    match variants.source_of(&state.locals.top, dir)? {
-        Some(source) if variants.variant_of(&source).is_none() => Ok(Some(source)),
-        _ => Ok(None),
-    }
-}
-
-fn place_of(state: &Declarations, env: EnvId, pattern: &Text) -> Result<Place, NameFault> {
-    let text = expanded(state, env, pattern.as_str(), Mode::Text)?;
-    let (dir, last) = halves(text.as_str());
-    if has_wildcard(dir) || last.is_empty() {
-        return Err(bad_argument(state, "Glob"));
-    }
-    Ok(Place {
-        dir: path_at(state, dir)?,
-        pattern: Pattern::read(state.alloc, last)?,
-    })
-}
-
-/// The directory part of a pattern's text, and its last part.
-fn halves(text: &str) -> (&str, &str) {
-    match text.rsplit_once('/') {
-        Some(("", last)) => ("/", last),
-        Some(halves) => halves,
-        None => match text.strip_prefix('#') {
-            Some(last) => ("#", last),
-            None => (".", text),
-        },
-    }
-}
-
-/// Adds those paths that lie in the place's directory, or in its source and are named beside it, and fit.
-fn add_fitting(
-    state: &Declarations,
-    found: &mut IndexSet<PathText>,
-    place: &Place,
+/// Adds what is found of some paths.
+fn add_found(
+    alloc: Global,
+    search: &Search,
     source: Option<&PathText>,
-    paths: &[PathText],
-) -> Result<(), NameFault> {
-    for path in paths {
-        if !place.pattern.fits(state.alloc, path.name())? {
-            continue;
-        }
-        if let Some(path) = seen_as(place, source, path)? {
-            found.insert(path)?;
-        }
+    some: &[PathText],
+    paths: &mut IndexSet<PathText>,
+) -> Result<(), Memory>
+    ensures { OnOk result (paths.new.keys ≡ insert_all bytes_eq paths.old.keys
+        (filter_map (spec.found search.now (option_copied source.entry)) some.now)) }
+{
+    for path in some {
+        let found = found(alloc, search, source, path)?;
+        add(paths, found)?;
     }
     Ok(())
 }
 
-/// A file of the directory as it is, and one of its source on the variant side.
-fn seen_as(
-    place: &Place,
+fn add(paths: &mut IndexSet<PathText>, path: Option<PathText>) -> Result<(), Memory>
+    ensures { OnOk result (paths.new.keys ≡ insert_all bytes_eq paths.old.keys (option_to_list path)) }
+{
+    if let Some(path) = path {
+        paths.insert(path)?;
+    }
+    Ok(())
+}
+
+/// A path of the directory whose name fits as it is, and one of its source as it is named in the directory.
+fn found(
+    alloc: Global,
+    search: &Search,
     source: Option<&PathText>,
     path: &PathText,
-) -> Result<Option<PathText>, NameFault> {
-    if path.dir() == place.dir.as_str() {
+) -> Result<Option<PathText>, Memory>
+    ensures { IfOk result (λ p. p ≡ spec.found search.now (option_copied source.entry) path.now) }
+{
+    if !search.pattern.fits(alloc, path.name())? {
+        return Ok(None);
+    }
+    named_in(&search.dir, source, path)
+}
+
+fn named_in(
+    dir: &PathText,
+    source: Option<&PathText>,
+    path: &PathText,
+) -> Result<Option<PathText>, Memory>
+    ensures { IfOk result (λ p. p ≡ spec.named_in dir.now (option_copied source.entry) path.now) }
+{
+    if path.dir() == dir.as_str() {
         return Ok(Some(path.copy()?));
     }
     match source {
-        Some(source) if path.dir() == source.as_str() => Ok(path.moved(source, &place.dir)?),
+        Some(source) if path.dir() == source.as_str() => path.moved(source, dir),
         _ => Ok(None),
     }
 }
