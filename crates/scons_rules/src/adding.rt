@@ -48,8 +48,7 @@ impl RuleReading {
         locals: &RuleLocals,
         libraries: &Paths,
     ) -> Result<(), RuleReadFault> {
-        let Some(rule) = OneRule::at(self.alloc, &self.state, number, &locals.locals, &self.dirs)
-        else {
+        let Some(rule) = OneRule::at(self.alloc, &self.state, number, &locals.locals) else {
             return Ok(());
         };
         let said = self
@@ -80,9 +79,9 @@ fn rule_paths<'a>(
 ) -> Result<RulePaths<'a>, Memory>
     ensures { IfOk result (λ p. p.targets.now ≡ rule.now.declared.now.targets) }
 {
-    let depends = all_settled(rule.alloc, rule.state, rule.dirs, said.depends.as_slice())?;
-    let required = all_settled(rule.alloc, rule.state, rule.dirs, said.required.as_slice())?;
-    let ignored = all_settled(rule.alloc, rule.state, rule.dirs, said.ignored.as_slice())?;
+    let depends = all_settled(rule.alloc, rule.state, said.depends.as_slice())?;
+    let required = all_settled(rule.alloc, rule.state, said.required.as_slice())?;
+    let ignored = all_settled(rule.alloc, rule.state, said.ignored.as_slice())?;
     Ok(RulePaths {
         targets: rule.declared.targets.as_slice(),
         sources: rule.locals.sources.as_slice(),

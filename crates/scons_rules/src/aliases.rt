@@ -9,7 +9,6 @@ ghost use Rattle.scons_rules.specs.Orders.{flattened};
 use crate::ignored::Ignored;
 use crate::orders::{Step, flattened};
 use crate::sources::settled;
-use indexmap::IndexSet;
 use scons_base::{Listing, Memory, PathText, Paths, Text};
 use scons_decls::{AliasParts, Declarations, Given};
 use std::alloc::Global;
@@ -49,13 +48,12 @@ impl Aliases {
         &self,
         alloc: Global,
         state: &Declarations,
-        dirs: &IndexSet<PathText>,
         place: usize,
     ) -> Result<Paths, Memory> {
         let mut files = Paths::new(Vec::new(alloc));
         let members = flattened(alloc, self.lists.as_slice(), place)?;
         for member in members.as_slice() {
-            push_file(state, dirs, &mut files, member)?;
+            push_file(state, &mut files, member)?;
         }
         Ok(files)
     }
@@ -123,14 +121,9 @@ fn parts_at(state: &Declarations, place: usize) -> Option<&AliasParts>
 }
 
 /// Puts the file that a member stands for behind others, or the directory.
-fn push_file(
-    state: &Declarations,
-    dirs: &IndexSet<PathText>,
-    files: &mut Paths,
-    member: &Given,
-) -> Result<(), Memory> {
+fn push_file(state: &Declarations, files: &mut Paths, member: &Given) -> Result<(), Memory> {
     match member {
-        Given::File(path) => files.push(settled(state, dirs, path)?),
+        Given::File(path) => files.push(settled(state, path)?),
         Given::Dir(path) => files.push(path.copy()?),
         Given::Text(_) | Given::Alias(_) => Ok(()),
     }

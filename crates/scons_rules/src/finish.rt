@@ -27,13 +27,7 @@ impl RuleReading {
     fn add_rest(&mut self) -> Result<(), RuleReadFault> {
         refuse_unmade(&self.state)?;
         add_variants(&mut self.graph, self.state.locals.variants.as_slice())?;
-        add_aliases(
-            self.alloc,
-            &self.state,
-            &self.dirs,
-            &self.aliases,
-            &mut self.graph,
-        )?;
+        add_aliases(self.alloc, &self.state, &self.aliases, &mut self.graph)?;
         add_defaults(self.alloc, &self.state, &mut self.graph)?;
         Ok(add_helps(&mut self.graph, self.state.helps.as_slice())?)
     }
@@ -89,12 +83,11 @@ fn add_variant(graph: &mut Graph, variant: &Variant) -> Result<(), RuleReadFault
 fn add_aliases(
     alloc: Global,
     state: &Declarations,
-    dirs: &IndexSet<PathText>,
     aliases: &Aliases,
     graph: &mut Graph,
 ) -> Result<(), RuleReadFault> {
     'aliases: for place in 0..state.aliases.len() {
-        add_alias(alloc, state, dirs, aliases, graph, place)?;
+        add_alias(alloc, state, aliases, graph, place)?;
     }
     Ok(())
 }
@@ -102,7 +95,6 @@ fn add_aliases(
 fn add_alias(
     alloc: Global,
     state: &Declarations,
-    dirs: &IndexSet<PathText>,
     aliases: &Aliases,
     graph: &mut Graph,
     place: usize,
@@ -110,7 +102,7 @@ fn add_alias(
     let Some((name, _)) = state.aliases.get_index(place) else {
         return Ok(());
     };
-    let files = aliases.files_at(alloc, state, dirs, place)?;
+    let files = aliases.files_at(alloc, state, place)?;
     let nodes = nodes_of(alloc, graph, files.as_slice())?;
     Ok(graph.add_alias(name.as_str(), nodes.as_slice())?)
 }

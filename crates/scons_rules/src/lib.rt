@@ -5,7 +5,6 @@
 //! (`Wanted`), and is told which were found.
 #![tactic(auto)]
 
-mod above;
 mod actions;
 mod adding;
 mod aliases;

@@ -59,7 +59,7 @@ fn wanted_one(
 
 /// A library that is named by its file, which stands in the line.
 fn library_file(rule: &OneRule<'_>, path: &PathText) -> Result<Wanted, RuleReadFault> {
-    let file = settled(rule.state, rule.dirs, path)?;
+    let file = settled(rule.state, path)?;
     refuse_path_for_shell(&file)?;
     Ok(Wanted {
         asked: Listing::empty(rule.alloc),

@@ -38,11 +38,10 @@ impl RuleLocals {
         &mut self,
         alloc: Global,
         state: &Declarations,
-        dirs: &IndexSet<PathText>,
         declared: &Declaration,
         cplusplus: &IndexSet<PathText>,
     ) -> Result<(), RuleReadFault> {
-        let files = all_settled(alloc, state, dirs, declared.sources.as_slice())?;
+        let files = all_settled(alloc, state, declared.sources.as_slice())?;
         refuse_in_lines(files.as_slice(), declared)?;
         let locals = &mut self.locals;
         locals.sources = named_all(alloc, state, files.as_slice())?;

@@ -4,8 +4,7 @@ ghost use Rattle.scons_rules.specs.Expanding.{expanding, text_of, command_of, li
 
 use crate::fault::RuleReadFault;
 use env_subst::{CommandLines, LibItem, Locals, Mode};
-use indexmap::IndexSet;
-use scons_base::{EnvId, Listing, PathText, Paths, Text};
+use scons_base::{EnvId, Listing, Paths, Text};
 use scons_decls::{Declaration, Declarations, Recipe};
 use std::alloc::Global;
 use world_api::Work;
@@ -17,7 +16,6 @@ pub(crate) struct OneRule<'a> {
     pub(crate) state: &'a Declarations,
     pub(crate) declared: &'a Declaration,
     pub(crate) locals: &'a Locals,
-    pub(crate) dirs: &'a IndexSet<PathText>,
 }
 
 impl<'a> OneRule<'a> {
@@ -27,11 +25,10 @@ impl<'a> OneRule<'a> {
         state: &'a Declarations,
         number: usize,
         locals: &'a Locals,
-        dirs: &'a IndexSet<PathText>,
     ) -> Option<OneRule<'a>>
         ensures { MatchOption result (slice_get state.now.rules.items number ≡ None)
             (λ r. (slice_get state.now.rules.items number ≡ Some r.declared.now) × (r.state.now ≡ state.now)
-            × ((r.locals.now ≡ locals.now) × (r.dirs.now.keys ≡ dirs.now.keys))) }
+            × (r.locals.now ≡ locals.now)) }
     {
         let declared = state.rules.get(number)?;
         Some(OneRule {
@@ -39,7 +36,6 @@ impl<'a> OneRule<'a> {
             state,
             declared,
             locals,
-            dirs,
         })
     }
 

@@ -1,6 +1,5 @@
 //! The declarations, gone over in their order.
 
-use crate::above::dirs_above;
 use crate::aliases::Aliases;
 use crate::fault::RuleReadFault;
 use crate::libraries::{Wanted, wanted_by};
@@ -23,8 +22,6 @@ pub struct RuleReading {
     pub(crate) said: SaidOf,
     /// The objects that are made of C++ sources.
     cplusplus: IndexSet<PathText>,
-    /// The directories that have targets below them.
-    pub(crate) dirs: IndexSet<PathText>,
 }
 
 impl RuleReading {
@@ -33,7 +30,6 @@ impl RuleReading {
         let aliases = Aliases::new(alloc, &state)?;
         let said = SaidOf::new(alloc, &state, &aliases)?;
         let cplusplus = cplusplus_objects(alloc, state.rules.as_slice())?;
-        let dirs = dirs_above(alloc, state.rules.as_slice())?;
         let graph = Graph::new(alloc, state.locals.top.copy()?)?;
         Ok(RuleReading {
             alloc,
@@ -42,7 +38,6 @@ impl RuleReading {
             aliases,
             said,
             cplusplus,
-            dirs,
         })
     }
 
@@ -69,15 +64,7 @@ impl RuleReading {
     /// Makes them those of the rule of a number.
     pub fn begin(&self, number: usize, locals: &mut RuleLocals) -> Result<(), RuleReadFault> {
         match self.state.rules.get(number) {
-            Some(declared) => {
-                locals.begin(
-                    self.alloc,
-                    &self.state,
-                    &self.dirs,
-                    declared,
-                    &self.cplusplus,
-                )
-            }
+            Some(declared) => { locals.begin(self.alloc, &self.state, declared, &self.cplusplus) }
             None => Ok(()),
         }
     }
@@ -88,7 +75,7 @@ impl RuleReading {
         number: usize,
         locals: &RuleLocals,
     ) -> Result<Listing<Wanted>, RuleReadFault> {
-        match OneRule::at(self.alloc, &self.state, number, &locals.locals, &self.dirs) {
+        match OneRule::at(self.alloc, &self.state, number, &locals.locals) {
             Some(rule) => wanted_of(&rule),
             None => Ok(Listing::empty(self.alloc)),
         }

@@ -5,21 +5,16 @@ ghost use Rattle.scons_decls.specs.State.{declared_of};
 ghost use Rattle.scons_rules.specs.Settled.{is_copied, is_uncopied, is_made, source_or_path, settled, named};
 
 use env_subst::Named;
-use indexmap::IndexSet;
 use scons_base::{Memory, PathText, Paths};
 use scons_decls::Declarations;
 use std::alloc::Global;
 
 /// The file that a path stands for: in a variant directory without copies its source, where the path itself is no target and
 /// no directory of targets.
-pub(crate) fn settled(
-    state: &Declarations,
-    dirs: &IndexSet<PathText>,
-    path: &PathText,
-) -> Result<PathText, Memory>
-    ensures { IfOk result (λ p. p ≡ settled dirs.now.keys (declared_of state.now) path.now) }
+pub(crate) fn settled(state: &Declarations, path: &PathText) -> Result<PathText, Memory>
+    ensures { IfOk result (λ p. p ≡ settled (declared_of state.now) path.now) }
 {
-    if is_uncopied(state, path) && !is_made(state, dirs, path) {
+    if is_uncopied(state, path) && !is_made(state, path) {
         source_or_path(state, path)
     } else {
         path.copy()
@@ -47,10 +42,10 @@ fn is_uncopied(state: &Declarations, path: &PathText) -> bool
 }
 
 /// Whether a path is a target, or a directory of targets.
-fn is_made(state: &Declarations, dirs: &IndexSet<PathText>, path: &PathText) -> bool
-    ensures { result ≡ is_made dirs.now.keys (declared_of state.now) path.now }
+fn is_made(state: &Declarations, path: &PathText) -> bool
+    ensures { result ≡ is_made (declared_of state.now) path.now }
 {
-    state.made.contains(path) || dirs.contains(path)
+    state.made.contains(path) || state.made.has_below(path)
 }
 
 /// The source of a path in a variant directory; elsewhere the path itself.
@@ -66,14 +61,13 @@ fn source_or_path(state: &Declarations, path: &PathText) -> Result<PathText, Mem
 pub(crate) fn all_settled(
     alloc: Global,
     state: &Declarations,
-    dirs: &IndexSet<PathText>,
     paths: &[PathText],
 ) -> Result<Paths, Memory>
-    ensures { IfOk result (λ p. p ≡ map (settled dirs.now.keys (declared_of state.now)) paths.now) }
+    ensures { IfOk result (λ p. p ≡ map (settled (declared_of state.now)) paths.now) }
 {
     let mut files = Paths::new(Vec::new(alloc));
     for path in paths {
-        files.push(settled(state, dirs, path)?)?;
+        files.push(settled(state, path)?)?;
     }
     Ok(files)
 }
