@@ -16,11 +16,9 @@ pub record Expanding : Type 0 where
   pub declared : Declared
   pub rule : Rule
   pub locals : Locals
-  -- the directories that have targets below them
-  pub dirs : List (List ℕ)
 
 abbrev pub expanding : OneRule → Expanding
-expanding r = record { declared = declared_of r.state.now; rule = rule_of r.declared.now; locals = r.locals.now; dirs = r.dirs.now.keys }
+expanding r = record { declared = declared_of r.state.now; rule = rule_of r.declared.now; locals = r.locals.now }
 
 abbrev pub text_of : Expanding → List ℕ → Result (List ℕ) RuleReadFault
 text_of x text = or_name (expanded x.declared.envs x.locals x.rule.env mode.Text text)
