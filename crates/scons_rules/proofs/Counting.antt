@@ -12,17 +12,6 @@ use Rattle.scons_rules.specs.declared.fault.RuleReadFault.{RuleReadFault}
 use Rattle.scons_rules.specs.Numbers.{each_once, interned, Numbers}
 use Rattle.scons_rules.proofs.Numbering.{once_again, once_more, among_once, interned_ok, some_numbers, lacking}
 
-less_none : (n : ℕ) → n - 0 ≡ n
-less_none n = omega arith
-
-not_so : (b : Bool) → not b ≡ true → b ≡ false
-not_so true e = absurd (cc)
-not_so false e = refl
-
-pub so : (b : Bool) → not b ≡ false → b ≡ true
-so true e = refl
-so false e = absurd (cc)
-
 -- the paths in front of a place of a list, and the one that stands there
 module _ {T : Type 0} (f : T → List ℕ) (xs : List T) (i : ℕ) (x : T) (p : List ℕ) (within : i < length xs) (at : x ≡ get_or xs i x) (is : p ≡ f x) where
   longer : map f (take (i + 1) xs) ≡ map f (take i xs) ++ p ∷ []
@@ -57,13 +46,13 @@ module _ {T : Type 0} (f : T → List ℕ) (xs : List T) (i : ℕ) (x : T) (p : 
     lacked e absent full = rw whole (lacking old nodes (map f (take i xs)) (map f (drop (suc i) xs)) p e numbers was absent full)
 
 -- whether a path stands in front of a place
-pub absent_in : {T : Type 0} → (f : T → List ℕ) (xs : List T) (i : ℕ) (p : List ℕ) (b : Bool) → b ≡ list_any (bytes_eq p) (map f (take (i - 0) xs)) → not b ≡ true
+pub absent_in : {T : Type 0} → (f : T → List ℕ) (xs : List T) (i : ℕ) (p : List ℕ) (b : Bool) → b ≡ list_any (bytes_eq p) (map f (take i xs)) → b ≡ false
     → list_any (bytes_eq p) (map f (take i xs)) ≡ false
-absent_in f xs i p b is e = ap (λ n. list_any (bytes_eq p) (map f (take n xs))) (sym (less_none i)) ∙ sym is ∙ not_so b e
+absent_in f xs i p b is e = sym is ∙ e
 
-pub there_in : {T : Type 0} → (f : T → List ℕ) (xs : List T) (i : ℕ) (p : List ℕ) (b : Bool) → b ≡ list_any (bytes_eq p) (map f (take (i - 0) xs)) → not b ≡ false
+pub there_in : {T : Type 0} → (f : T → List ℕ) (xs : List T) (i : ℕ) (p : List ℕ) (b : Bool) → b ≡ list_any (bytes_eq p) (map f (take i xs)) → b ≡ true
     → list_any (bytes_eq p) (map f (take i xs)) ≡ true
-there_in f xs i p b is e = ap (λ n. list_any (bytes_eq p) (map f (take n xs))) (sym (less_none i)) ∙ sym is ∙ so b e
+there_in f xs i p b is e = sym is ∙ e
 
 -- keys of a set, seen through what is compared of them
 module _ {K : Type 0} (v : K → List ℕ) where
