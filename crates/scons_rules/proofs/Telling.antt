@@ -123,10 +123,11 @@ pub told_one : (r : Result (Unit {0}) Memory) (a b : OfRule) (sentences : List S
 told_one (Ok u) a b sentences number s is added = rw is added
 told_one (Err e) a b sentences number s is added = tt
 
-pub told_more : (g : ℕ → Option Sentence) (ns : List ℕ) (i n : ℕ) (a b c : OfRule) → i < length ns → n ≡ get_or ns i n → b ≡ fold with_sentence a (filter_map g (take i ns))
-    → c ≡ fold with_sentence b (filter_map g (n ∷ [])) → c ≡ fold with_sentence a (filter_map g (take (i + 1) ns))
-told_more g ns i n a b c within at before is =
+pub told_more : (g : ℕ → Option Sentence) (ns : List ℕ) (i : ℕ) (a b c : OfRule) → i < length ns → b ≡ fold with_sentence a (filter_map g (take i ns))
+    → c ≡ fold with_sentence b (filter_map g (get_or ns i 0 ∷ [])) → c ≡ fold with_sentence a (filter_map g (take (i + 1) ns))
+told_more g ns i a b c within before is =
+    let n = get_or ns i 0 in
     is ∙ ap (λ (r : OfRule). fold with_sentence r (filter_map g (n ∷ []))) before
-    ∙ sym (ap (λ l. fold with_sentence a (filter_map g l)) (take_more ns i n within ∙ ap (λ k. take i ns ++ k ∷ []) (sym at))
+    ∙ sym (ap (λ l. fold with_sentence a (filter_map g l)) (take_more ns i 0 within)
     ∙ ap (fold with_sentence a) (filter_map-append g (take i ns) (n ∷ []))
     ∙ fold-append with_sentence a (filter_map g (take i ns)) (filter_map g (n ∷ [])))
