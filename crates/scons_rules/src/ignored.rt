@@ -4,7 +4,7 @@ ghost use Rattle.scons_decls.specs.declared.given.Given.{Given};
 ghost use Rattle.scons_rules.specs.Aliased.{Leaves, is_left};
 
 use indexmap::IndexSet;
-use scons_base::{Memory, PathText};
+use scons_base::{Memory, PathText, Text};
 use scons_decls::Given;
 use std::alloc::Global;
 use std::marker::Model;
@@ -13,16 +13,15 @@ use std::marker::Model;
 #[derive(Drop)]
 pub(crate) struct Ignored {
     paths: IndexSet<PathText>,
-    aliases: IndexSet<String>,
+    aliases: IndexSet<Text>,
 }
 
 impl Model for Ignored {
-    ghost use Rattle.std.specs.Prelude.{map, string_bytes};
     ghost use Rattle.scons_rules.specs.Aliased.{Left};
 
     ghost Value = { Left };
 
-    ghost view = { λ i. record { paths = i.paths.keys; aliases = map string_bytes i.aliases.keys } };
+    ghost view = { λ i. record { paths = i.paths.keys; aliases = i.aliases.keys } };
 }
 
 impl Ignored {
@@ -40,18 +39,17 @@ impl Ignored {
     {
         let mut ignored = Ignored::new(alloc);
         for node in nodes {
-            ignored.add(alloc, node)?;
+            ignored.add(node)?;
         }
         Ok(ignored)
     }
 
-    fn add(&mut self, alloc: Global, node: &Given) -> Result<(), Memory>
+    fn add(&mut self, node: &Given) -> Result<(), Memory>
         ensures { OnOk result ((nodes : List Given) → Leaves nodes self.old → Leaves (nodes ++ node.now ∷ []) self.new) }
     {
         match node {
             Given::Alias(name) => {
-                let name = String::from_str(alloc, name.as_str())?;
-                self.aliases.insert(name)?;
+                self.aliases.insert(name.copy()?)?;
             }
             Given::File(path) | Given::Dir(path) => {
                 self.paths.insert(path.copy()?)?;
@@ -66,7 +64,7 @@ impl Ignored {
         ensures { result ≡ is_left self.now node.now }
     {
         match node {
-            Given::Alias(name) => self.aliases.contains(name.as_str()),
+            Given::Alias(name) => self.aliases.contains(name),
             Given::File(path) | Given::Dir(path) => self.paths.contains(path),
             Given::Text(_) => false,
         }

@@ -9,11 +9,3 @@ pub returns-then-has : goal.returns-then-has
 returns-then-has c = λ left leaves.
     sym (step_left (names_in c.args.state.now.aliases) left c.args.ignored.now c.args.node.now leaves (sym c.has.ensures ∙ c.if-has.true))
 
-pub returns-in-Some : goal.returns-in-Some
-returns-in-Some c = λ left leaves. ?
-
-pub returns-in-None : goal.returns-in-None
-returns-in-None c = λ left leaves. ?
-
-pub returns-in_ok-copy-in_default : goal.returns-in_ok-copy-in_default
-returns-in_ok-copy-in_default c = λ left leaves. ?

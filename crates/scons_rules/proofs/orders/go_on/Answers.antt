@@ -8,5 +8,3 @@ pub returns-in-None : goal.returns-in-None
 returns-in-None c =
     over_none c.args.lists.now (length c.args.lists.now) (left_of c.args.walk.now) c.args.steps.now (gone_of c.args.walk.now) c.in-None.ensures.cases
 
-pub returns-in_ok-push-in-Some : goal.returns-in_ok-push-in-Some
-returns-in_ok-push-in-Some c = ?
