@@ -1,1 +1,6 @@
+pub mod Flats
+pub mod Loops
+pub mod Numbering
+pub mod Rows
 pub mod Standing
+pub mod Tails

@@ -1,6 +1,8 @@
 //! Why a call isn't taken.
+ghost use Rattle.std.specs.Prelude.{◌≡◌, ◌≢◌};
+
 use scons_base::{Memory as NoMemory, Text};
-use std::alloc::{AllocError, AllocFailed};
+use std::alloc::{AllocError, AllocFailed, Global};
 
 /// Why the arguments of a call are refused.
 #[derive(Drop)]
@@ -44,5 +46,15 @@ impl<T: Drop> From<AllocFailed<T>> for CallFault {
 
     fn from(_: AllocFailed<T>) -> Self {
         CallFault::Memory
+    }
+}
+
+/// The fault of what is left out, by its name.
+pub fn left_out(alloc: Global, name: &str) -> CallFault
+    ensures { result ≢ CallFault.Memory → result ≡ CallFault.LeftOut name.now }
+{
+    match Text::of(alloc, name) {
+        Ok(name) => CallFault::LeftOut(name),
+        Err(_) => CallFault::Memory,
     }
 }

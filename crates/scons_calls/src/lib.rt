@@ -8,7 +8,9 @@
 #![tactic(auto)]
 
 mod argument;
+mod arguments;
 mod bind;
+mod builders;
 mod convert;
 mod exports;
 mod fault;
@@ -17,26 +19,33 @@ mod left_out;
 mod name;
 mod nodes;
 mod objects;
+mod pairs;
+mod parts;
 mod replacing;
 mod request;
 mod requests;
 mod signature;
 mod signatures;
 mod texts;
+mod thing;
 mod values;
+mod variable_values;
 mod variables;
+mod variables_given;
 mod words;
 
+pub use builders::builder;
 pub use exports::Exports;
 pub use fault::CallFault;
-pub use flattening::flattened;
+pub use flattening::{flat_items, flattened};
 pub use left_out::{is_left_out, is_left_out_of_environments};
-pub use name::Name;
-pub use objects::{Objects, Thing};
+pub use name::{Name, NameId};
+pub use objects::Objects;
 pub use request::{Request, ScriptFiles, Shared, Valued};
 pub use requests::{own_request_of, request_of};
+pub use thing::Thing;
 pub use values::{
     dict_value, given_value, list_value, nodes_value, text_value, texts_value, tuple_value,
-    variable_value,
 };
-pub use variables::{builder, is_identifier, variable_of};
+pub use variable_values::variable_value;
+pub use variables::{is_identifier, variable_of};

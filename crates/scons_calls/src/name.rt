@@ -1,8 +1,12 @@
 //! The names of SCons that scripts call, grouped by what a call asks, and how they are written.
+ghost use Rattle.std.specs.Prelude.{◌≡◌, length, map, position};
+ghost use Rattle.std.specs.Option.{option_map};
+ghost use Rattle.std.specs.Str.{bytes_eq};
+ghost use Rattle.scons_calls.specs.Names.{is_alone, is_method, names_table, stands_in, name_in, text_in, name_alone, name_of_method, name_at, text_at};
 
 /// A name of SCons that scripts call. Each group is matched whole where its calls are made requests, so none of a group can
 /// be forgotten there.
-#[derive(Clone, Copy, PartialEq, Eq)]
+#[derive(Clone, Copy)]
 pub enum Name {
     Builds(Builds),
     Environs(Environs),
@@ -12,7 +16,7 @@ pub enum Name {
 }
 
 /// Builders with targets and sources.
-#[derive(Clone, Copy, PartialEq, Eq)]
+#[derive(Clone, Copy)]
 pub enum Builds {
     Object,
     Program,
@@ -21,7 +25,7 @@ pub enum Builds {
 }
 
 /// What is called with variables, or acts on those of an environment.
-#[derive(Clone, Copy, PartialEq, Eq)]
+#[derive(Clone, Copy)]
 pub enum Environs {
     Environment,
     DefaultEnvironment,
@@ -41,7 +45,7 @@ pub enum Environs {
 }
 
 /// What declares or says something of nodes.
-#[derive(Clone, Copy, PartialEq, Eq)]
+#[derive(Clone, Copy)]
 pub enum Says {
     Install,
     InstallAs,
@@ -57,7 +61,7 @@ pub enum Says {
 }
 
 /// What the host tells by itself.
-#[derive(Clone, Copy, PartialEq, Eq)]
+#[derive(Clone, Copy)]
 pub enum Tells {
     Get,
     Glob,
@@ -68,7 +72,7 @@ pub enum Tells {
 }
 
 /// What scripts share with one another.
-#[derive(Clone, Copy, PartialEq, Eq)]
+#[derive(Clone, Copy)]
 pub enum Shares {
     SConscript,
     Export,
@@ -84,8 +88,8 @@ pub enum Stands {
     AsBoth,
 }
 
-/// The names as they are written.
-pub const NAMES: &[(&str, Name, Stands)] = &[
+/// The names as they are written, and where each stands.
+pub const NAMES: [(&str, Name, Stands); 40] = [
     (
         "Environment",
         Name::Environs(Environs::Environment),
@@ -176,21 +180,105 @@ pub const NAMES: &[(&str, Name, Stands)] = &[
     ),
 ];
 
-impl Name {
-    /// How it is written.
-    pub fn text(self) -> &'static str {
-        match NAMES.iter().find(|row| row.1 == self) {
-            Some(row) => row.0,
-            None => "",
+/// A row of that table.
+type Row = (&'static str, Name, Stands);
+
+/// The number of a name: its place among `NAMES`. A number that has no place there stands for the first of them.
+#[derive(Clone, Copy, Debug, PartialEq, Eq, Hash)]
+pub struct NameId(pub usize);
+
+impl NameId {
+    /// The method of environments that is written so.
+    #[tactic(auto, using(crate::proofs::Rows::rows))]
+    pub fn of_environments(text: &str) -> Option<NameId>
+        ensures { option_map (λ id. id.0) result ≡ name_of_method text.now }
+    {
+        let place = place_in(&NAMES, text)?;
+        if is_method(stands_in(&NAMES, place)) {
+            Some(NameId(place))
+        } else {
+            None
         }
     }
 
-    /// The method of environments that is written so.
-    pub fn of_environments(text: &str) -> Option<Name> {
-        let row = NAMES.iter().find(|row| row.0 == text)?;
-        match row.2 {
-            Stands::Alone => None,
-            Stands::AsMethod | Stands::AsBoth => Some(row.1),
+    /// The name of scripts that is written so.
+    #[tactic(auto, using(crate::proofs::Rows::rows))]
+    pub fn of_scripts(text: &str) -> Option<NameId>
+        ensures { option_map (λ id. id.0) result ≡ name_alone text.now }
+    {
+        let place = place_in(&NAMES, text)?;
+        if is_alone(stands_in(&NAMES, place)) {
+            Some(NameId(place))
+        } else {
+            None
         }
     }
+
+    pub fn name(self) -> Name
+        ensures { result ≡ name_at self.0 }
+    {
+        name_in(&NAMES, self.0)
+    }
+
+    /// How it is written.
+    pub fn text(self) -> &'static str
+        ensures { result.now ≡ text_at self.0 }
+    {
+        text_in(&NAMES, self.0)
+    }
+
+    /// How many names there are.
+    pub fn count() -> usize
+        ensures { result ≡ length names_table }
+    {
+        NAMES.len()
+    }
+}
+
+/// Where the row stands that is written so.
+fn place_in(rows: &[Row], text: &str) -> Option<usize>
+    ensures { result ≡ position (λ r. bytes_eq r.0.now text.now) rows.now }
+{
+    rows.iter().position(|row| row.0 == text)
+}
+
+fn stands_in(rows: &[Row], place: usize) -> Stands
+    ensures { result ≡ stands_in (map (λ r. (r.0.now, r.1, r.2)) rows.now) place }
+{
+    match rows.get(place) {
+        Some(row) => row.2,
+        None => Stands::AsBoth,
+    }
+}
+
+fn name_in(rows: &[Row], place: usize) -> Name
+    ensures { result ≡ name_in (map (λ r. (r.0.now, r.1, r.2)) rows.now) place }
+{
+    match rows.get(place) {
+        Some(row) => row.1,
+        None => Name::Environs(Environs::Environment),
+    }
+}
+
+fn text_in(rows: &[Row], place: usize) -> &'static str
+    ensures { result.now ≡ text_in (map (λ r. (r.0.now, r.1, r.2)) rows.now) place }
+{
+    match rows.get(place) {
+        Some(row) => row.0,
+        None => "Environment",
+    }
+}
+
+/// Whether it is a method of environments.
+fn is_method(stands: Stands) -> bool
+    ensures { result ≡ is_method stands }
+{
+    matches!(stands, Stands::AsMethod | Stands::AsBoth)
+}
+
+/// Whether it stands among the names of scripts.
+fn is_alone(stands: Stands) -> bool
+    ensures { result ≡ is_alone stands }
+{
+    matches!(stands, Stands::Alone | Stands::AsBoth)
 }

@@ -1,51 +1,40 @@
-//! The objects of scripts: what the number of each stands for. A path, an alias or a method has one object, found by hash.
-use crate::name::{NAMES, Name, Stands};
-use indexmap::IndexMap;
+//! The objects of scripts, by their numbers. A thing has one object, which is found by hash.
+ghost use Rattle.std.specs.Prelude.{◌≡◌, [], IfOk, OnOk, slice_get, option_copied};
+ghost use Rattle.std.specs.Option.{option_map};
+ghost use Rattle.scons_calls.specs.Things.{node_at, numbered, numbered_node, number_named, number_of_name, with_first_names, with_names};
+
+use crate::name::NameId;
+use crate::thing::Thing;
+use indexmap::IndexSet;
 use py_heap::HostId;
-use scons_base::{EnvId, Memory, PathText, Text};
+use scons_base::{Memory, PathText};
 use std::alloc::Global;
+use std::marker::Model;
 
-/// What an object stands for.
-#[derive(Drop)]
-pub enum Thing {
-    /// A name of SCons.
-    Name(Name),
-    Env(EnvId),
-    /// A method of an environment.
-    Method(EnvId, Name),
-    /// A builder that an environment has by this name.
-    OwnMethod(EnvId, Text),
-    /// `env['BUILDERS']`.
-    Builders(EnvId),
-    Builder(u32),
-    File(PathText),
-    Dir(PathText),
-    Alias(Text),
-}
-
-/// The objects by their numbers, and the tables that find them.
+/// What the objects stand for, seen as a list: the number of an object is the place of its thing.
 #[derive(Drop)]
 pub struct Objects {
-    things: Vec<Thing>,
-    files: IndexMap<PathText, u32>,
-    dirs: IndexMap<PathText, u32>,
-    aliases: IndexMap<Text, u32>,
-    names: IndexMap<String, u32>,
-    envs: IndexMap<u64, u32>,
-    methods: IndexMap<(u64, Text), u32>,
+    things: IndexSet<Thing>,
     alloc: Global,
 }
 
+impl Model for Objects {
+    ghost use Rattle.std.specs.Prelude.{◌≤◌, ◌^◌, length};
+    ghost use Rattle.scons_calls.specs.Things.{Things};
+
+    ghost Value = { Things };
+
+    ghost view = { λ o. o.things.keys };
+
+    ghost invariant = { λ o. length o.things.keys ≤ 2 ^ 32 };
+}
+
 impl Objects {
-    pub fn new(alloc: Global) -> Objects {
+    pub fn new(alloc: Global) -> Objects
+        ensures { result ≡ [] }
+    {
         Objects {
-            things: Vec::new(alloc),
-            files: IndexMap::new(alloc),
-            dirs: IndexMap::new(alloc),
-            aliases: IndexMap::new(alloc),
-            names: IndexMap::new(alloc),
-            envs: IndexMap::new(alloc),
-            methods: IndexMap::new(alloc),
+            things: IndexSet::new(alloc),
             alloc,
         }
     }
@@ -55,96 +44,73 @@ impl Objects {
     }
 
     /// What an object stands for.
-    pub fn thing(&self, id: HostId) -> Option<&Thing> {
-        self.things.get(id.0 as usize)
+    pub fn thing(&self, id: HostId) -> Option<&Thing>
+        ensures { option_copied result ≡ slice_get self.now id.0 }
+    {
+        self.things.get_index(id.0 as usize)
     }
 
-    /// A new object.
-    pub fn add(&mut self, thing: Thing) -> Result<HostId, Memory> {
-        let id = u32::try_from(self.things.len()).map_err(|_| Memory)?;
-        self.things.push(thing)?;
-        Ok(HostId(id))
-    }
-
-    /// The object of a file.
-    pub fn file(&mut self, path: &PathText) -> Result<HostId, Memory> {
-        if let Some(id) = self.files.get(path) {
-            return Ok(HostId(*id));
+    /// The object of a thing, a new one where it has none yet.
+    pub fn object(&mut self, thing: Thing) -> Result<HostId, Memory>
+        ensures { IfOk result (λ id. numbered self.old thing ≡ (id.0, self.new)) }
+    {
+        if self.things.len() > u32::MAX as usize {
+            return Err(Memory);
         }
-        let id = self.add(Thing::File(path.copy()?))?;
-        self.files.insert(path.copy()?, id.0)?;
-        Ok(id)
-    }
-
-    /// The object of a directory.
-    pub fn dir(&mut self, path: &PathText) -> Result<HostId, Memory> {
-        if let Some(id) = self.dirs.get(path) {
-            return Ok(HostId(*id));
-        }
-        let id = self.add(Thing::Dir(path.copy()?))?;
-        self.dirs.insert(path.copy()?, id.0)?;
-        Ok(id)
+        let (place, _) = self.things.insert_full(thing)?;
+        Ok(HostId(place as u32))
     }
 
     /// The object of a path: the directory's where one has been given out, else the file's.
-    pub fn node(&mut self, path: &PathText) -> Result<HostId, Memory> {
-        match self.dirs.get(path) {
-            Some(id) => Ok(HostId(*id)),
-            None => self.file(path),
-        }
+    #[tactic(auto, using(crate::proofs::Numbering::numbering))]
+    pub fn node(&mut self, path: &PathText) -> Result<HostId, Memory>
+        ensures { IfOk result (λ id. numbered_node self.old path.now ≡ (id.0, self.new)) }
+    {
+        let thing = self.node_at(path)?;
+        self.object(thing)
     }
 
-    /// The object of an alias.
-    pub fn alias(&mut self, name: &Text) -> Result<HostId, Memory> {
-        if let Some(id) = self.aliases.get(name) {
-            return Ok(HostId(*id));
+    /// What a path is.
+    fn node_at(&self, path: &PathText) -> Result<Thing, Memory>
+        ensures { IfOk result (λ thing. thing ≡ node_at self.now path.now) }
+    {
+        let dir = Thing::Dir(path.copy()?);
+        if self.things.contains(&dir) {
+            return Ok(dir);
         }
-        let id = self.add(Thing::Alias(name.copy()?))?;
-        self.aliases.insert(name.copy()?, id.0)?;
-        Ok(id)
-    }
-
-    /// The object of an environment.
-    pub fn env(&mut self, env: EnvId) -> Result<HostId, Memory> {
-        if let Some(id) = self.envs.get(&env.0) {
-            return Ok(HostId(*id));
-        }
-        let id = self.add(Thing::Env(env))?;
-        self.envs.insert(env.0, id.0)?;
-        Ok(id)
+        Ok(Thing::File(path.copy()?))
     }
 
     /// The object of a name that scripts use, if it is one of SCons.
-    pub fn name(&self, name: &str) -> Option<HostId> {
-        let id = self.names.get(name)?;
-        Some(HostId(*id))
+    pub fn name(&self, name: &str) -> Option<HostId>
+        ensures { option_map (λ id. id.0) result ≡ number_named self.now name.now }
+    {
+        let id = NameId::of_scripts(name)?;
+        self.object_of_name(id)
+    }
+
+    /// The object of a name, if it has been given one.
+    fn object_of_name(&self, id: NameId) -> Option<HostId>
+        ensures { option_map (λ id. id.0) result ≡ number_of_name self.now id.0 }
+    {
+        let place = self.things.get_index_of(&Thing::Name(id))?;
+        Some(HostId(place as u32))
     }
 
     /// Gives each name of SCons its object.
-    pub fn add_names(&mut self) -> Result<(), Memory> {
-        for (text, name, stands) in NAMES {
-            if !matches!(stands, Stands::AsMethod) {
-                self.put_name(text, Thing::Name(*name))?;
-            }
-        }
-        Ok(())
+    pub fn add_names(&mut self) -> Result<(), Memory>
+        ensures { OnOk result (self.new ≡ with_names self.old) }
+    {
+        self.add_first_names(NameId::count())
     }
 
-    fn put_name(&mut self, name: &str, thing: Thing) -> Result<(), Memory> {
-        let id = self.add(thing)?;
-        self.names
-            .insert(String::from_str(self.alloc, name)?, id.0)?;
-        Ok(())
-    }
-
-    /// The object of an environment's method.
-    pub fn method(&mut self, env: EnvId, name: &str, thing: Thing) -> Result<HostId, Memory> {
-        let key = (env.0, Text::of(self.alloc, name)?);
-        if let Some(id) = self.methods.get(&key) {
-            return Ok(HostId(*id));
+    #[tactic(auto, using(crate::proofs::Numbering::numbering))]
+    fn add_first_names(&mut self, count: usize) -> Result<(), Memory>
+        ensures { OnOk result (self.new ≡ with_first_names count self.old) }
+    {
+        for place in 0..count {
+            self.object(Thing::Name(NameId(place)))?;
         }
-        let id = self.add(thing)?;
-        self.methods.insert(key, id.0)?;
-        Ok(id)
+        Ok(())
     }
 }

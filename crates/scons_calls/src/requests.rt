@@ -1,45 +1,87 @@
 //! From a call's arguments to what the host is asked.
-use crate::argument::Argument;
-use crate::bind::{Arguments, bound, place_of};
-use crate::exports::Exports;
+ghost use Rattle.std.specs.Prelude.{◌≡◌, ◌≢◌, Ok, Err, IfOk, IfErr, OnOk};
+ghost use Rattle.py_host.specs.Calls.{arguments_of};
+ghost use Rattle.scons_calls.specs.Requests.{asked, built, declares, maker_of, environs_call, says_call, tells_request, shares_request, targets_and_sources, request_of, own_request_of, builder_of, default_of};
+ghost use Rattle.scons_calls.specs.Requests.{front, behind, nodes_in};
+
+use crate::arguments::Arguments;
+use crate::bind::bound;
+use crate::exports::put_named;
 use crate::fault::CallFault;
 use crate::name::{Builds, Environs, Name, Says, Shares, Tells};
 use crate::objects::Objects;
+use crate::parts::{any, exports, flag, mode, nodes, nodes_in, pairs, place, place_if, text, texts};
 use crate::request::{Request, ScriptFiles, Shared, Valued};
-use crate::signature::{Others, Signature};
 use crate::signatures::{own_builder_signature, signature};
-use crate::variables::{builders, variable_of};
-use env_subst::Mode;
-use py_heap::{Heap, Value};
-use py_host::{Args, Scope};
-use scons_base::{Listing, Memory, Text, Texts};
-use scons_decls::{
-    Builder, Call, Change, Given, Maker, Nodes, Pairs, RuleCall, SayCall, Variables,
-};
+use crate::variables_given::variables;
+use py_heap::Heap;
+use py_host::Args;
+use scons_base::Text;
+use scons_decls::{Builder, Call, Change, Maker, Nodes, RuleCall, SayCall, Variables};
 use std::alloc::Global;
 
 /// What a call of a name asks.
+#[tactic(auto, using(crate::proofs::Tails::tails))]
 pub fn request_of(
     heap: &Heap,
     objects: &Objects,
     name: Name,
     args: &Args,
-) -> Result<Request, CallFault> {
+) -> Result<Request, CallFault>
+    ensures ok { let given = arguments_of args.now in
+        IfOk result (λ r. request_of heap.now objects.now name given ≡ Ok r) }
+    ensures fault { let given = arguments_of args.now in
+        IfErr result (λ e. e ≢ CallFault.Memory → request_of heap.now objects.now name given ≡ Err e) }
+{
     let signature = signature(name);
     let mut arguments = bound(heap, objects, &signature, args)?;
-    let variables = variables(heap, objects, &signature, args)?;
-    let alloc = heap.allocator();
+    let variables = variables(heap, objects, &signature, &args.named)?;
+    asked(heap.allocator(), name, &mut arguments, variables, args)
+}
+
+/// What a call of an environment's own builder asks.
+#[tactic(auto, using(crate::proofs::Tails::tails))]
+pub fn own_request_of(
+    heap: &Heap,
+    objects: &Objects,
+    name: &Text,
+    args: &Args,
+) -> Result<Request, CallFault>
+    ensures ok { let given = arguments_of args.now in
+        IfOk result (λ r. own_request_of heap.now objects.now name.now given ≡ Ok r) }
+    ensures fault { let given = arguments_of args.now in
+        IfErr result (λ e. e ≢ CallFault.Memory → own_request_of heap.now objects.now name.now given ≡ Err e) }
+{
+    let signature = own_builder_signature();
+    let mut arguments = bound(heap, objects, &signature, args)?;
+    let variables = variables(heap, objects, &signature, &args.named)?;
+    built(heap.allocator(), Maker::Own(name.copy()?), &mut arguments, variables)
+}
+
+fn asked(
+    alloc: Global,
+    name: Name,
+    arguments: &mut Arguments,
+    variables: Variables,
+    args: &Args,
+) -> Result<Request, CallFault>
+    ensures ok { IfOk result (λ r. asked name arguments.old variables args.now.named ≡ Ok r) }
+    ensures fault { IfErr result (λ e. e ≢ CallFault.Memory →
+        asked name arguments.old variables args.now.named ≡ Err e) }
+{
     match name {
-        Name::Builds(name) => built(alloc, maker_of(name), &mut arguments, variables),
-        Name::Environs(name) => Ok(declares(environs(alloc, name, &mut arguments, variables)?)),
-        Name::Says(name) => Ok(declares(said(alloc, name, &mut arguments)?)),
-        Name::Tells(name) => Ok(told(alloc, name, &mut arguments)),
-        Name::Shares(name) => shared(alloc, name, &mut arguments, args),
+        Name::Builds(name) => built(alloc, maker_of(name), arguments, variables),
+        Name::Environs(name) => Ok(declares(environs(alloc, name, arguments, variables)?)),
+        Name::Says(name) => Ok(declares(said(alloc, name, arguments)?)),
+        Name::Tells(name) => Ok(told(alloc, name, arguments)),
+        Name::Shares(name) => shared(alloc, name, arguments, args),
     }
 }
 
 /// What a builder's name makes.
-fn maker_of(name: Builds) -> Maker {
+fn maker_of(name: Builds) -> Maker
+    ensures { result ≡ maker_of name }
+{
     match name {
         Builds::Object => Maker::Object,
         Builds::Program => Maker::Program,
@@ -47,81 +89,10 @@ fn maker_of(name: Builds) -> Maker {
     }
 }
 
-fn declares(call: Call) -> Request {
+fn declares(call: Call) -> Request
+    ensures { result ≡ declares call }
+{
     Request::Gives(Valued::Declare(call))
-}
-
-/// What a call of an environment's own builder asks.
-pub fn own_request_of(
-    heap: &Heap,
-    objects: &Objects,
-    name: &Text,
-    args: &Args,
-) -> Result<Request, CallFault> {
-    let signature = own_builder_signature();
-    let mut arguments = bound(heap, objects, &signature, args)?;
-    let variables = variables(heap, objects, &signature, args)?;
-    built(
-        heap.allocator(),
-        Maker::Own(name.copy()?),
-        &mut arguments,
-        variables,
-    )
-}
-
-/// The variables among the named arguments, in their order.
-fn variables(
-    heap: &Heap,
-    objects: &Objects,
-    signature: &Signature,
-    args: &Args,
-) -> Result<Variables, CallFault> {
-    let alloc = heap.allocator();
-    let mut variables = Variables {
-        values: Listing::empty(alloc),
-        builders: Listing::empty(alloc),
-    };
-    if !matches!(signature.others, Others::Variables) {
-        return Ok(variables);
-    }
-    for at in 0..args.named.len() {
-        if let Some((name, value)) = args.named.at(at) {
-            if place_of(signature, name).is_none() {
-                put_variable(heap, objects, name, value, &mut variables)?;
-            }
-        }
-    }
-    Ok(variables)
-}
-
-fn put_variable(
-    heap: &Heap,
-    objects: &Objects,
-    name: &str,
-    value: Value,
-    variables: &mut Variables,
-) -> Result<(), CallFault> {
-    if name == "BUILDERS" {
-        variables.builders = builders(heap, objects, value)?;
-        return Ok(());
-    }
-    let value = variable_of(heap, objects, name, value)?;
-    variables
-        .values
-        .push((Text::of(heap.allocator(), name)?, value))?;
-    Ok(())
-}
-
-/// Puts the named arguments of Export into a scope.
-fn put_named(alloc: Global, values: &mut Scope, args: &Args) -> Result<(), Memory> {
-    for at in 0..args.named.len() {
-        if let Some((name, value)) = args.named.at(at) {
-            if name != "names" {
-                values.set(Text::of(alloc, name)?, value)?;
-            }
-        }
-    }
-    Ok(())
 }
 
 /// A call of a builder.
@@ -130,7 +101,10 @@ fn built(
     maker: Maker,
     arguments: &mut Arguments,
     variables: Variables,
-) -> Result<Request, CallFault> {
+) -> Result<Request, CallFault>
+    ensures ok { IfOk result (λ r. built maker arguments.old variables ≡ Ok r) }
+    ensures fault { IfErr result (λ e. e ≢ CallFault.Memory → built maker arguments.old variables ≡ Err e) }
+{
     let (targets, sources) = targets_and_sources(alloc, arguments)?;
     Ok(declares(Call::Rules(RuleCall::Build {
         maker,
@@ -144,13 +118,21 @@ fn built(
 fn targets_and_sources(
     alloc: Global,
     from: &mut Arguments,
-) -> Result<(Option<Nodes>, Nodes), CallFault> {
-    Ok(match (take(from), take(from)) {
-        (None, None) => return Err(CallFault::Arguments),
-        (targets, None) => (None, nodes_in(alloc, targets)),
-        (None, sources) => (None, nodes_in(alloc, sources)),
-        (targets, sources) => (Some(nodes_in(alloc, targets)), nodes_in(alloc, sources)),
-    })
+) -> Result<(Option<Nodes>, Nodes), CallFault>
+    ensures found { result ≡ targets_and_sources from.old }
+    ensures rest { OnOk result (from.new ≡ behind (behind from.old)) }
+{
+    let first = from.take();
+    let second = from.take();
+    match (first, second) {
+        (None, None) => Err(CallFault::Arguments),
+        (Some(sources), None) => Ok((None, nodes_in(alloc, Some(sources)))),
+        (None, Some(sources)) => Ok((None, nodes_in(alloc, Some(sources)))),
+        (Some(targets), Some(sources)) => {
+            let targets = nodes_in(alloc, Some(targets));
+            Ok((Some(targets), nodes_in(alloc, Some(sources))))
+        }
+    }
 }
 
 /// What is asked by the names that are called with variables, or act on them.
@@ -159,7 +141,9 @@ fn environs(
     name: Environs,
     from: &mut Arguments,
     variables: Variables,
-) -> Result<Call, CallFault> {
+) -> Result<Call, CallFault>
+    ensures { result ≡ environs_call name from.old variables }
+{
     Ok(match name {
         Environs::Environment => Call::Environment(variables),
         Environs::DefaultEnvironment => Call::DefaultEnvironment(variables),
@@ -198,7 +182,10 @@ fn environs(
 }
 
 /// What is asked by the names that say something of nodes.
-fn said(alloc: Global, name: Says, from: &mut Arguments) -> Result<Call, CallFault> {
+fn said(alloc: Global, name: Says, from: &mut Arguments) -> Result<Call, CallFault>
+    ensures ok { IfOk result (λ c. says_call name from.old ≡ Ok c) }
+    ensures fault { IfErr result (λ e. e ≢ CallFault.Memory → says_call name from.old ≡ Err e) }
+{
     Ok(match name {
         Says::Install => Call::Rules(RuleCall::Install {
             dirs: nodes(alloc, from),
@@ -230,14 +217,16 @@ fn said(alloc: Global, name: Says, from: &mut Arguments) -> Result<Call, CallFau
             names: nodes(alloc, from),
             members: nodes(alloc, from),
         }),
-        Says::Default => Call::Default(wanted(alloc, from)?),
+        Says::Default => wanted(alloc, from)?,
         Says::File => Call::File(place(from)?),
         Says::Dir => Call::Dir(place(from)?),
     })
 }
 
 /// What is asked of the host alone.
-fn told(alloc: Global, name: Tells, from: &mut Arguments) -> Request {
+fn told(alloc: Global, name: Tells, from: &mut Arguments) -> Request
+    ensures { result ≡ tells_request name from.old }
+{
     match name {
         Tells::Get => Request::Gives(Valued::Get(text(alloc, from), any(from))),
         Tells::Glob => Request::Glob(text(alloc, from)),
@@ -253,17 +242,20 @@ fn shared(
     name: Shares,
     from: &mut Arguments,
     args: &Args,
-) -> Result<Request, CallFault> {
+) -> Result<Request, CallFault>
+    ensures ok { IfOk result (λ r. shares_request name from.old args.now.named ≡ r) }
+    ensures fault { IfErr result (λ e. e ≡ CallFault.Memory) }
+{
     Ok(match name {
         Shares::SConscript => Request::Scripts(ScriptFiles {
             files: nodes(alloc, from),
             exports: exports(alloc, from),
-            variant: place(from).ok(),
+            variant: place_if(from),
             duplicate: flag(from),
         }),
         Shares::Export => {
             let mut exports = exports(alloc, from);
-            put_named(alloc, &mut exports.values, args)?;
+            put_named(alloc, &mut exports.values, &args.named)?;
             Request::Shares(Shared::Export(exports))
         }
         Shares::Import => Request::Shares(Shared::Import(texts(alloc, from))),
@@ -271,7 +263,9 @@ fn shared(
     })
 }
 
-fn builder_of(alloc: Global, from: &mut Arguments) -> Builder {
+fn builder_of(alloc: Global, from: &mut Arguments) -> Builder
+    ensures { result ≡ builder_of from.old }
+{
     let action = texts(alloc, from);
     let suffix = text(alloc, from);
     let src_suffix = text(alloc, from);
@@ -284,88 +278,14 @@ fn builder_of(alloc: Global, from: &mut Arguments) -> Builder {
     }
 }
 
-/// The next argument, if it is given.
-fn take(from: &mut Arguments) -> Option<Argument> {
-    from.pop_front().flatten()
-}
-
-/// The next argument as a text, empty where it isn't given.
-fn text(alloc: Global, from: &mut Arguments) -> Text {
-    match take(from) {
-        Some(Argument::Text(text)) => text,
-        _ => Text::new(String::new(alloc)),
-    }
-}
-
-fn nodes(alloc: Global, from: &mut Arguments) -> Nodes {
-    nodes_in(alloc, take(from))
-}
-
 /// What `Default` names. To SCons nothing, or None, takes away what a run without words makes; that is left out here.
-fn wanted(alloc: Global, from: &mut Arguments) -> Result<Nodes, CallFault> {
+fn wanted(alloc: Global, from: &mut Arguments) -> Result<Call, CallFault>
+    ensures ok { IfOk result (λ c. default_of (nodes_in (front from.old)) ≡ Ok c) }
+    ensures fault { IfErr result (λ e. e ≢ CallFault.Memory → default_of (nodes_in (front from.old)) ≡ Err e) }
+{
     let nodes = nodes(alloc, from);
     if nodes.is_empty() {
         return Err(CallFault::LeftOut(Text::of(alloc, "Default(None)")?));
     }
-    Ok(nodes)
-}
-
-fn nodes_in(alloc: Global, argument: Option<Argument>) -> Nodes {
-    match argument {
-        Some(Argument::Nodes(nodes)) => nodes,
-        _ => Listing::empty(alloc),
-    }
-}
-
-fn texts(alloc: Global, from: &mut Arguments) -> Texts {
-    match take(from) {
-        Some(Argument::Texts(texts)) => texts,
-        _ => Texts::new(Vec::new(alloc)),
-    }
-}
-
-fn pairs(alloc: Global, from: &mut Arguments) -> Pairs {
-    match take(from) {
-        Some(Argument::Pairs(pairs)) => pairs,
-        _ => Listing::empty(alloc),
-    }
-}
-
-fn place(from: &mut Arguments) -> Result<Given, CallFault> {
-    match take(from) {
-        Some(Argument::Place(given)) => Ok(given),
-        _ => Err(CallFault::Arguments),
-    }
-}
-
-fn exports(alloc: Global, from: &mut Arguments) -> Exports {
-    match take(from) {
-        Some(Argument::Exports(exports)) => exports,
-        _ => Exports {
-            names: Texts::new(Vec::new(alloc)),
-            values: Scope::new(alloc),
-        },
-    }
-}
-
-/// The next argument as a flag, which is true where it isn't given.
-fn flag(from: &mut Arguments) -> bool {
-    match take(from) {
-        Some(Argument::Flag(flag)) => flag,
-        _ => true,
-    }
-}
-
-fn mode(from: &mut Arguments) -> Mode {
-    match take(from) {
-        Some(Argument::Mode(mode)) => mode,
-        _ => Mode::Text,
-    }
-}
-
-fn any(from: &mut Arguments) -> Value {
-    match take(from) {
-        Some(Argument::Any(value)) => value,
-        _ => Value::Nil,
-    }
+    Ok(Call::Default(nodes))
 }

@@ -1,4 +1,5 @@
 //! What a signature says of the arguments of a name.
+use std::marker::Model;
 
 /// Of which kind an argument is.
 #[derive(Clone, Copy)]
@@ -42,12 +43,8 @@ pub enum Takes {
     Any,
 }
 
-#[derive(Clone, Copy)]
-pub struct Parameter {
-    pub name: &'static str,
-    pub kind: Kind,
-    pub takes: Takes,
-}
+/// A parameter: its name, of which kind its argument is, and how many it takes.
+pub type Parameter = (&'static str, Kind, Takes);
 
 /// What named arguments are that no parameter is called by.
 #[derive(Clone, Copy)]
@@ -59,10 +56,20 @@ pub enum Others {
     Exports,
 }
 
-#[derive(Clone, Copy)]
+/// The arguments that a name takes, in their order.
+#[derive(Drop)]
 pub struct Signature {
     pub parameters: &'static [Parameter],
     /// The names of arguments on which SCons acts and that are left out here.
     pub left_out: &'static [&'static str],
     pub others: Others,
+}
+
+impl Model for Signature {
+    ghost use Rattle.std.specs.Prelude.{map};
+    ghost use Rattle.scons_calls.specs.Signatures.{Signature as SignatureSpec, parameter_of, signature_by};
+
+    ghost Value = { SignatureSpec };
+
+    ghost view = { λ s. signature_by (map parameter_of s.parameters.now) (map (λ n. n.now) s.left_out.now) s.others };
 }

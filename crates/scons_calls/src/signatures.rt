@@ -1,139 +1,98 @@
 //! The table of signatures, in the order of the manual's names.
-use crate::name::{Builds, Environs, Name, Says, Shares, Tells};
+ghost use Rattle.std.specs.Prelude.{◌≡◌};
+ghost use Rattle.scons_calls.specs.Signatures.{signature_of, of_builds, of_environs, of_says, of_tells, of_shares};
+
+use crate::name::{Environs, Name, Says, Shares, Tells};
 use crate::signature::{Kind, Others, Parameter, Signature, Takes};
-
-/// One argument that must stand.
-macro_rules! one {
-    ($name:literal, $kind:ident) => {
-        Parameter {
-            name: $name,
-            kind: Kind::$kind,
-            takes: Takes::One,
-        }
-    };
-}
-
-/// One argument that may stand.
-macro_rules! option {
-    ($name:literal, $kind:ident) => {
-        Parameter {
-            name: $name,
-            kind: Kind::$kind,
-            takes: Takes::OneOrNone,
-        }
-    };
-}
-
-/// All arguments from here on, at least one.
-macro_rules! some {
-    ($name:literal, $kind:ident) => {
-        Parameter {
-            name: $name,
-            kind: Kind::$kind,
-            takes: Takes::Some,
-        }
-    };
-}
-
-/// All arguments from here on.
-macro_rules! any {
-    ($name:literal, $kind:ident) => {
-        Parameter {
-            name: $name,
-            kind: Kind::$kind,
-            takes: Takes::Any,
-        }
-    };
-}
 
 const VARIABLES: &[Parameter] = &[];
 
-const UNIQUE: &[Parameter] = &[option!("delete_existing", False)];
+const UNIQUE: &[Parameter] = &[("delete_existing", Kind::False, Takes::OneOrNone)];
 
-const TEXT_AND_DEFAULT: &[Parameter] = &[one!("key", Text), option!("default", Any)];
+const TEXT_AND_DEFAULT: &[Parameter] = &[("key", Kind::Text, Takes::One), ("default", Kind::Any, Takes::OneOrNone)];
 
-const SUBST: &[Parameter] = &[one!("string", Text), option!("raw", Mode)];
+const SUBST: &[Parameter] = &[("string", Kind::Text, Takes::One), ("raw", Kind::Mode, Takes::OneOrNone)];
 
-const BUILT: &[Parameter] = &[option!("target", Nodes), option!("source", Nodes)];
+const BUILT: &[Parameter] = &[("target", Kind::Nodes, Takes::OneOrNone), ("source", Kind::Nodes, Takes::OneOrNone)];
 
 const COMMAND: &[Parameter] = &[
-    one!("target", Nodes),
-    one!("source", Nodes),
-    one!("action", Lines),
+    ("target", Kind::Nodes, Takes::One),
+    ("source", Kind::Nodes, Takes::One),
+    ("action", Kind::Lines, Takes::One),
 ];
 
 const TEXTFILE: &[Parameter] = &[
-    one!("target", Nodes),
-    one!("source", Texts),
-    option!("SUBST_DICT", Pairs),
+    ("target", Kind::Nodes, Takes::One),
+    ("source", Kind::Texts, Takes::One),
+    ("SUBST_DICT", Kind::Pairs, Takes::OneOrNone),
 ];
 
 const SUBSTFILE: &[Parameter] = &[
-    option!("target", Nodes),
-    option!("source", Nodes),
-    option!("SUBST_DICT", Pairs),
+    ("target", Kind::Nodes, Takes::OneOrNone),
+    ("source", Kind::Nodes, Takes::OneOrNone),
+    ("SUBST_DICT", Kind::Pairs, Takes::OneOrNone),
 ];
 
 const BUILDER: &[Parameter] = &[
-    one!("action", Lines),
-    option!("suffix", Text),
-    option!("src_suffix", Text),
-    option!("prefix", Text),
+    ("action", Kind::Lines, Takes::One),
+    ("suffix", Kind::Text, Takes::OneOrNone),
+    ("src_suffix", Kind::Text, Takes::OneOrNone),
+    ("prefix", Kind::Text, Takes::OneOrNone),
 ];
 
-const INSTALL: &[Parameter] = &[one!("dir", Nodes), one!("source", Nodes)];
+const INSTALL: &[Parameter] = &[("dir", Kind::Nodes, Takes::One), ("source", Kind::Nodes, Takes::One)];
 
-const INSTALL_AS: &[Parameter] = &[one!("target", Nodes), one!("source", Nodes)];
+const INSTALL_AS: &[Parameter] = &[("target", Kind::Nodes, Takes::One), ("source", Kind::Nodes, Takes::One)];
 
 const SCRIPTS: &[Parameter] = &[
-    one!("files", Nodes),
-    option!("exports", Exports),
-    option!("variant_dir", Place),
-    option!("duplicate", Flag),
+    ("files", Kind::Nodes, Takes::One),
+    ("exports", Kind::Exports, Takes::OneOrNone),
+    ("variant_dir", Kind::Place, Takes::OneOrNone),
+    ("duplicate", Kind::Flag, Takes::OneOrNone),
 ];
 
-const EXPORT: &[Parameter] = &[any!("names", Exports)];
+const EXPORT: &[Parameter] = &[("names", Kind::Exports, Takes::Any)];
 
-const NAMES: &[Parameter] = &[any!("names", Names)];
+const NAMES: &[Parameter] = &[("names", Kind::Names, Takes::Any)];
 
 const VARIANT_DIR: &[Parameter] = &[
-    one!("variant_dir", Place),
-    one!("src_dir", Place),
-    option!("duplicate", Flag),
+    ("variant_dir", Kind::Place, Takes::One),
+    ("src_dir", Kind::Place, Takes::One),
+    ("duplicate", Kind::Flag, Takes::OneOrNone),
 ];
 
-const SAID: &[Parameter] = &[one!("target", Nodes), one!("dependency", Nodes)];
+const SAID: &[Parameter] = &[("target", Kind::Nodes, Takes::One), ("dependency", Kind::Nodes, Takes::One)];
 
-const REQUIRED: &[Parameter] = &[one!("target", Nodes), one!("prerequisite", Nodes)];
+const REQUIRED: &[Parameter] = &[("target", Kind::Nodes, Takes::One), ("prerequisite", Kind::Nodes, Takes::One)];
 
-const TARGETS: &[Parameter] = &[some!("targets", Nodes)];
+const TARGETS: &[Parameter] = &[("targets", Kind::Nodes, Takes::Some)];
 
 const ALIAS: &[Parameter] = &[
-    one!("target", Nodes),
-    option!("source", Nodes),
-    option!("action", None),
+    ("target", Kind::Nodes, Takes::One),
+    ("source", Kind::Nodes, Takes::OneOrNone),
+    ("action", Kind::None, Takes::OneOrNone),
 ];
 
-const HELP: &[Parameter] = &[one!("text", Text), option!("append", False)];
+const HELP: &[Parameter] = &[("text", Kind::Text, Takes::One), ("append", Kind::False, Takes::OneOrNone)];
 
-const DECIDER: &[Parameter] = &[one!("function", Text)];
+const DECIDER: &[Parameter] = &[("function", Kind::Text, Takes::One)];
 
 const GLOB: &[Parameter] = &[
-    one!("pattern", Text),
-    option!("ondisk", True),
-    option!("source", False),
-    option!("strings", False),
-    option!("exclude", None),
+    ("pattern", Kind::Text, Takes::One),
+    ("ondisk", Kind::True, Takes::OneOrNone),
+    ("source", Kind::False, Takes::OneOrNone),
+    ("strings", Kind::False, Takes::OneOrNone),
+    ("exclude", Kind::None, Takes::OneOrNone),
 ];
 
-const PLACE: &[Parameter] = &[one!("name", Place)];
+const PLACE: &[Parameter] = &[("name", Kind::Place, Takes::One)];
 
-const ARGUMENT: &[Parameter] = &[one!("arg", Any)];
+const ARGUMENT: &[Parameter] = &[("arg", Kind::Any, Takes::One)];
 
 const VERSION: &[Parameter] = &[
-    one!("major", Any),
-    option!("minor", Any),
-    option!("revision", Any),
+    ("major", Kind::Any, Takes::One),
+    ("minor", Kind::Any, Takes::OneOrNone),
+    ("revision", Kind::Any, Takes::OneOrNone),
 ];
 
 const NONE: &[&str] = &[];
@@ -180,9 +139,11 @@ const OF_RETURNS: &[&str] = &["stop"];
 const OF_PLACES: &[&str] = &["directory", "create"];
 
 /// The signature of a name.
-pub fn signature(name: Name) -> Signature {
+pub fn signature(name: Name) -> Signature
+    ensures { result ≡ signature_of name }
+{
     match name {
-        Name::Builds(builds) => of_builds(builds),
+        Name::Builds(_) => own_builder_signature(),
         Name::Environs(environs) => of_environs(environs),
         Name::Says(says) => of_says(says),
         Name::Tells(tells) => of_tells(tells),
@@ -190,14 +151,9 @@ pub fn signature(name: Name) -> Signature {
     }
 }
 
-fn of_builds(builds: Builds) -> Signature {
-    match builds {
-        Builds::Object | Builds::Program => own_builder_signature(),
-        Builds::StaticLibrary | Builds::Library => own_builder_signature(),
-    }
-}
-
-fn of_environs(environs: Environs) -> Signature {
+fn of_environs(environs: Environs) -> Signature
+    ensures { result ≡ of_environs environs }
+{
     let (parameters, left_out, others) = match environs {
         Environs::Environment | Environs::DefaultEnvironment | Environs::Clone => (
             VARIABLES,
@@ -222,7 +178,9 @@ fn of_environs(environs: Environs) -> Signature {
     }
 }
 
-fn of_says(says: Says) -> Signature {
+fn of_says(says: Says) -> Signature
+    ensures { result ≡ of_says says }
+{
     let (parameters, left_out) = match says {
         Says::Install => (INSTALL, NONE),
         Says::InstallAs => (INSTALL_AS, NONE),
@@ -240,7 +198,9 @@ fn of_says(says: Says) -> Signature {
     }
 }
 
-fn of_tells(tells: Tells) -> Signature {
+fn of_tells(tells: Tells) -> Signature
+    ensures { result ≡ of_tells tells }
+{
     let parameters = match tells {
         Tells::Get => TEXT_AND_DEFAULT,
         Tells::Glob => GLOB,
@@ -254,7 +214,9 @@ fn of_tells(tells: Tells) -> Signature {
     }
 }
 
-fn of_shares(shares: Shares) -> Signature {
+fn of_shares(shares: Shares) -> Signature
+    ensures { result ≡ of_shares shares }
+{
     let (parameters, left_out, others) = match shares {
         Shares::SConscript => (SCRIPTS, OF_SCRIPTS, Others::Refused),
         Shares::Export => (EXPORT, NONE, Others::Exports),
@@ -269,7 +231,9 @@ fn of_shares(shares: Shares) -> Signature {
 }
 
 /// The signature of a builder, also of one that a script has made.
-pub fn own_builder_signature() -> Signature {
+pub fn own_builder_signature() -> Signature
+    ensures { result ≡ of_builds }
+{
     Signature {
         parameters: BUILT,
         left_out: OF_BUILDS,

@@ -1,77 +1,104 @@
-//! What the host answers, as values of the heap.
+//! What the host answers, as values of the heap. Whatever is answered, what stood in the heap stands there.
+ghost use Rattle.std.specs.Prelude.{◌≡◌, ◌≢◌, Ok, Err, IfOk, IfErr};
+ghost use Rattle.py_heap.specs.Given.{given_text, given_list, given_tuple, given_dict, given_object};
 ghost use Rattle.py_host.specs.Extends.{Extends};
+ghost use Rattle.scons_calls.specs.Things.{numbered};
+ghost use Rattle.scons_calls.specs.Values.{shown_in, shown_value, given_value, node_values, nodes_value, text_values, texts_value};
 
 use crate::objects::Objects;
-use env_vars::{EnvValue, Item};
+use crate::thing::Thing;
 use py_heap::{Heap, HostId, Value, ValueFault};
-use scons_base::{PathText, Text};
+use scons_base::Text;
 use scons_decls::Given;
 
 /// A new text.
 pub fn text_value(heap: &mut Heap, text: &str) -> Result<Value, ValueFault>
-    ensures { Extends heap.old heap.new }
+    ensures ok { IfOk result (λ v. given_text heap.old text.now ≡ Ok (v, heap.new)) }
+    ensures fault { IfErr result (λ e. e ≢ ValueFault.Memory → given_text heap.old text.now ≡ Err e) }
+    ensures stands { Extends heap.old heap.new }
 {
     heap.text(text)
 }
 
 /// A new list.
 pub fn list_value(heap: &mut Heap, items: &[Value]) -> Result<Value, ValueFault>
-    ensures { Extends heap.old heap.new }
+    ensures ok { IfOk result (λ v. given_list heap.old items.now ≡ Ok (v, heap.new)) }
+    ensures fault { IfErr result (λ e. e ≢ ValueFault.Memory → given_list heap.old items.now ≡ Err e) }
+    ensures stands { Extends heap.old heap.new }
 {
     heap.list(items)
 }
 
 /// A new tuple.
 pub fn tuple_value(heap: &mut Heap, items: &[Value]) -> Result<Value, ValueFault>
-    ensures { Extends heap.old heap.new }
+    ensures ok { IfOk result (λ v. given_tuple heap.old items.now ≡ Ok (v, heap.new)) }
+    ensures fault { IfErr result (λ e. e ≢ ValueFault.Memory → given_tuple heap.old items.now ≡ Err e) }
+    ensures stands { Extends heap.old heap.new }
 {
     heap.tuple(items)
 }
 
 /// A new dict.
 pub fn dict_value(heap: &mut Heap, pairs: &[(Value, Value)]) -> Result<Value, ValueFault>
-    ensures { Extends heap.old heap.new }
+    ensures ok { IfOk result (λ v. given_dict heap.old pairs.now ≡ Ok (v, heap.new)) }
+    ensures fault { IfErr result (λ e. e ≢ ValueFault.Memory → given_dict heap.old pairs.now ≡ Err e) }
+    ensures stands { Extends heap.old heap.new }
 {
     heap.dict(pairs)
 }
 
 /// An object, which shows as this text.
 fn object_value(heap: &mut Heap, id: HostId, text: &str) -> Result<Value, ValueFault>
-    ensures { Extends heap.old heap.new }
+    ensures ok { IfOk result (λ v. given_object heap.old id.0 text.now ≡ Ok (v, heap.new)) }
+    ensures fault { IfErr result (λ e. e ≢ ValueFault.Memory → given_object heap.old id.0 text.now ≡ Err e) }
+    ensures stands { Extends heap.old heap.new }
 {
     heap.object(id, text)
 }
 
 /// The value of a node, directory or alias: its one object, which shows as its path or name.
-#[tactic(auto, using(crate::proofs::Standing::standing))]
+#[tactic(auto, using(crate::proofs::Standing::standing, crate::proofs::Tails::tails, crate::proofs::Numbering::naming))]
 pub fn given_value(
     heap: &mut Heap,
     objects: &mut Objects,
     given: &Given,
 ) -> Result<Value, ValueFault>
-    ensures { Extends heap.old heap.new }
+    ensures ok { IfOk result (λ v. given_value objects.old heap.old given.now ≡ Ok (v, objects.new, heap.new)) }
+    ensures fault { IfErr result (λ e. e ≢ ValueFault.Memory → given_value objects.old heap.old given.now ≡ Err e) }
+    ensures stands { Extends heap.old heap.new }
 {
     match given {
-        Given::File(path) => {
-            let id = objects.file(path)?;
-            shown(heap, id, path.as_str())
-        }
-        Given::Dir(path) => {
-            let id = objects.dir(path)?;
-            shown(heap, id, path.as_str())
-        }
-        Given::Alias(name) => {
-            let id = objects.alias(name)?;
-            shown(heap, id, name.as_str())
-        }
+        Given::File(path) => one_value(heap, objects, Thing::File(path.copy()?), path.as_str()),
+        Given::Dir(path) => one_value(heap, objects, Thing::Dir(path.copy()?), path.as_str()),
+        Given::Alias(name) => one_value(heap, objects, Thing::Alias(name.copy()?), name.as_str()),
         Given::Text(text) => text_value(heap, text.as_str()),
     }
 }
 
+/// The one object of a thing, which shows as this text.
+#[tactic(auto, using(crate::proofs::Standing::standing, crate::proofs::Tails::tails))]
+fn one_value(
+    heap: &mut Heap,
+    objects: &mut Objects,
+    thing: Thing,
+    text: &str,
+) -> Result<Value, ValueFault>
+    ensures ok { IfOk result (λ v.
+        shown_value heap.old text.now (numbered objects.old thing) ≡ Ok (v, objects.new, heap.new)) }
+    ensures fault { IfErr result (λ e. e ≢ ValueFault.Memory →
+        shown_value heap.old text.now (numbered objects.old thing) ≡ Err e) }
+    ensures stands { Extends heap.old heap.new }
+{
+    let id = objects.object(thing)?;
+    shown(heap, id, text)
+}
+
 /// An object, which shows as this text from its first giving out on.
-#[tactic(auto, using(crate::proofs::Standing::standing))]
-fn shown(heap: &mut Heap, id: HostId, text: &str) -> Result<Value, ValueFault>
-    ensures { Extends heap.old heap.new }
+#[tactic(auto, using(crate::proofs::Standing::standing, crate::proofs::Tails::tails))]
+pub(crate) fn shown(heap: &mut Heap, id: HostId, text: &str) -> Result<Value, ValueFault>
+    ensures ok { IfOk result (λ v. shown_in heap.old id.0 text.now ≡ Ok (v, heap.new)) }
+    ensures fault { IfErr result (λ e. e ≢ ValueFault.Memory → shown_in heap.old id.0 text.now ≡ Err e) }
+    ensures stands { Extends heap.old heap.new }
 {
     match heap.shown_of(id) {
         Some(_) => Ok(Value::Object(id)),
@@ -80,114 +107,57 @@ fn shown(heap: &mut Heap, id: HostId, text: &str) -> Result<Value, ValueFault>
 }
 
 /// A list of nodes.
-#[tactic(auto, using(crate::proofs::Standing::standing))]
+#[tactic(auto, using(crate::proofs::Standing::standing, crate::proofs::Tails::tails))]
 pub fn nodes_value(
     heap: &mut Heap,
     objects: &mut Objects,
     nodes: &[Given],
 ) -> Result<Value, ValueFault>
-    ensures { Extends heap.old heap.new }
+    ensures ok { IfOk result (λ v. nodes_value objects.old heap.old nodes.now ≡ Ok (v, objects.new, heap.new)) }
+    ensures fault { IfErr result (λ e. e ≢ ValueFault.Memory → nodes_value objects.old heap.old nodes.now ≡ Err e) }
+    ensures stands { Extends heap.old heap.new }
+{
+    let values = node_values(heap, objects, nodes)?;
+    list_value(heap, values.as_slice())
+}
+
+#[tactic(auto, using(crate::proofs::Standing::standing, crate::proofs::Loops::loops))]
+fn node_values(
+    heap: &mut Heap,
+    objects: &mut Objects,
+    nodes: &[Given],
+) -> Result<Vec<Value>, ValueFault>
+    ensures ok { IfOk result (λ v. node_values objects.old heap.old nodes.now ≡ Ok (v.items, objects.new, heap.new)) }
+    ensures fault { IfErr result (λ e. e ≢ ValueFault.Memory → node_values objects.old heap.old nodes.now ≡ Err e) }
+    ensures stands { Extends heap.old heap.new }
 {
     let mut values = Vec::new(heap.allocator());
     for node in nodes {
         values.push(given_value(heap, objects, node)?)?;
     }
-    list_value(heap, values.as_slice())
+    Ok(values)
 }
 
 /// A list of texts.
-#[tactic(auto, using(crate::proofs::Standing::standing))]
+#[tactic(auto, using(crate::proofs::Standing::standing, crate::proofs::Tails::tails))]
 pub fn texts_value(heap: &mut Heap, texts: &[Text]) -> Result<Value, ValueFault>
-    ensures { Extends heap.old heap.new }
+    ensures ok { IfOk result (λ v. texts_value heap.old texts.now ≡ Ok (v, heap.new)) }
+    ensures fault { IfErr result (λ e. e ≢ ValueFault.Memory → texts_value heap.old texts.now ≡ Err e) }
+    ensures stands { Extends heap.old heap.new }
+{
+    let values = text_values(heap, texts)?;
+    list_value(heap, values.as_slice())
+}
+
+#[tactic(auto, using(crate::proofs::Standing::standing, crate::proofs::Loops::loops))]
+fn text_values(heap: &mut Heap, texts: &[Text]) -> Result<Vec<Value>, ValueFault>
+    ensures ok { IfOk result (λ v. text_values heap.old texts.now ≡ Ok (v.items, heap.new)) }
+    ensures fault { IfErr result (λ e. e ≢ ValueFault.Memory → text_values heap.old texts.now ≡ Err e) }
+    ensures stands { Extends heap.old heap.new }
 {
     let mut values = Vec::new(heap.allocator());
     for text in texts {
         values.push(text_value(heap, text.as_str())?)?;
     }
-    list_value(heap, values.as_slice())
-}
-
-/// A copy of a variable's value.
-#[tactic(auto, using(crate::proofs::Standing::standing))]
-pub fn variable_value(
-    heap: &mut Heap,
-    objects: &mut Objects,
-    value: &EnvValue,
-) -> Result<Value, ValueFault>
-    ensures { Extends heap.old heap.new }
-{
-    match value {
-        EnvValue::Nil => Ok(Value::Nil),
-        EnvValue::Bool(flag) => Ok(Value::Bool(*flag)),
-        EnvValue::Int(number) => Ok(Value::Int(*number)),
-        EnvValue::Text(text) => text_value(heap, text.as_str()),
-        EnvValue::Words(words) => texts_value(heap, words.as_slice()),
-        EnvValue::List(items) => items_value(heap, objects, items.as_slice()),
-        EnvValue::Pairs(pairs) => pairs_value(heap, objects, pairs.as_slice()),
-    }
-}
-
-#[tactic(auto, using(crate::proofs::Standing::standing))]
-fn items_value(heap: &mut Heap, objects: &mut Objects, items: &[Item]) -> Result<Value, ValueFault>
-    ensures { Extends heap.old heap.new }
-{
-    let mut values = Vec::new(heap.allocator());
-    for item in items {
-        values.push(item_value(heap, objects, item)?)?;
-    }
-    list_value(heap, values.as_slice())
-}
-
-#[tactic(auto, using(crate::proofs::Standing::standing))]
-fn pairs_value(
-    heap: &mut Heap,
-    objects: &mut Objects,
-    pairs: &[(Text, Item)],
-) -> Result<Value, ValueFault>
-    ensures { Extends heap.old heap.new }
-{
-    let mut values = Vec::new(heap.allocator());
-    for (name, item) in pairs {
-        let key = text_value(heap, name.as_str())?;
-        let value = pair_value(heap, objects, item)?;
-        values.push((key, value))?;
-    }
-    dict_value(heap, values.as_slice())
-}
-
-/// What stands in a dict: a pair there tells the value, or None.
-#[tactic(auto, using(crate::proofs::Standing::standing))]
-fn pair_value(heap: &mut Heap, objects: &mut Objects, item: &Item) -> Result<Value, ValueFault>
-    ensures { Extends heap.old heap.new }
-{
-    match item {
-        Item::Pair(_, Some(value)) => text_value(heap, value.as_str()),
-        Item::Pair(_, None) => Ok(Value::Nil),
-        item => item_value(heap, objects, item),
-    }
-}
-
-#[tactic(auto, using(crate::proofs::Standing::standing))]
-fn item_value(heap: &mut Heap, objects: &mut Objects, item: &Item) -> Result<Value, ValueFault>
-    ensures { Extends heap.old heap.new }
-{
-    match item {
-        Item::Text(text) => text_value(heap, text.as_str()),
-        Item::Int(number) => Ok(Value::Int(*number)),
-        Item::Node(path) => node_value(heap, objects, path),
-        Item::Pair(name, None) => text_value(heap, name.as_str()),
-        Item::Pair(name, Some(value)) => {
-            let name = text_value(heap, name.as_str())?;
-            let value = text_value(heap, value.as_str())?;
-            tuple_value(heap, &[name, value])
-        }
-    }
-}
-
-#[tactic(auto, using(crate::proofs::Standing::standing))]
-fn node_value(heap: &mut Heap, objects: &mut Objects, path: &PathText) -> Result<Value, ValueFault>
-    ensures { Extends heap.old heap.new }
-{
-    let id = objects.node(path)?;
-    shown(heap, id, path.as_str())
+    Ok(values)
 }

@@ -6,7 +6,7 @@ use crate::stop::{Refusal, refused};
 use py_heap::{Heap, Value};
 use scons_base::Text;
 use scons_calls::{
-    Thing, flattened, given_value, list_value, nodes_value, text_value, texts_value, variable_value,
+    Thing, flat_items, given_value, list_value, nodes_value, text_value, texts_value, variable_value,
 };
 use scons_decls::{Answer, Call, SayCall};
 
@@ -36,14 +36,14 @@ pub fn answer_value(
 {
     match answer {
         Answer::Nothing | Answer::Variable(None) => Ok(Value::Nil),
-        Answer::Env(env) => Ok(Value::Object(state.objects.env(env)?)),
+        Answer::Env(env) => Ok(Value::Object(state.objects.object(Thing::Env(env))?)),
         Answer::Targets(nodes) => match nodes.as_slice() {
             [node] if single => Ok(given_value(heap, &mut state.objects, node)?),
             nodes => Ok(nodes_value(heap, &mut state.objects, nodes)?),
         },
         Answer::Text(text) => Ok(text_value(heap, text.as_str())?),
         Answer::Variable(Some(value)) => Ok(variable_value(heap, &mut state.objects, &value)?),
-        Answer::Builder(number) => Ok(Value::Object(state.objects.add(Thing::Builder(number))?)),
+        Answer::Builder(number) => Ok(Value::Object(state.objects.object(Thing::Builder(number))?)),
     }
 }
 
@@ -80,9 +80,8 @@ fn listed(heap: &mut Heap, value: Value) -> Result<Value, Refusal>
 pub fn flat_value(heap: &mut Heap, value: Value) -> Result<Value, Refusal>
     ensures { Extends heap.old heap.new }
 {
-    let mut items = Vec::new(heap.allocator());
-    if let Err(fault) = flattened(heap, &[value], &mut items) {
-        return Err(refused(heap.allocator(), "Flatten", fault));
+    match flat_items(heap, &[value]) {
+        Ok(items) => Ok(list_value(heap, items.as_slice())?),
+        Err(fault) => Err(refused(heap.allocator(), "Flatten", fault)),
     }
-    Ok(list_value(heap, items.as_slice())?)
 }

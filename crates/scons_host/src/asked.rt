@@ -10,7 +10,7 @@ use py_heap::{DictId, Heap, HostId, Value};
 use py_host::Place;
 use scons_base::{EnvId, PathText, Text};
 use scons_calls::{
-    Name, Thing, builder, is_identifier, is_left_out_of_environments, text_value, variable_of,
+    NameId, Thing, builder, is_identifier, is_left_out_of_environments, text_value, variable_of,
     variable_value,
 };
 use scons_decls::{Call, NameFault};
@@ -70,7 +70,7 @@ fn method(state: &mut State, env: EnvId, name: &str) -> Result<Value, Refusal> {
     let Some(thing) = method_of(state, env, name)? else {
         return Err(no_method(state.alloc, name));
     };
-    Ok(Value::Object(state.objects.method(env, name, thing)?))
+    Ok(Value::Object(state.objects.object(thing)?))
 }
 
 /// A builder of the environment's own comes before the name of SCons that is written so.
@@ -79,7 +79,7 @@ fn method_of(state: &State, env: EnvId, name: &str) -> Result<Option<Thing>, Ref
         let text = Text::of(state.alloc, name)?;
         return Ok(Some(Thing::OwnMethod(env, text)));
     }
-    match Name::of_environments(name) {
+    match NameId::of_environments(name) {
         Some(known) => Ok(Some(Thing::Method(env, known))),
         None => Ok(None),
     }
@@ -148,7 +148,7 @@ pub fn item(
     let name = key_text(state, heap, object, key)?;
     match subject_of(state, object)? {
         Subject::Env(env) if name.as_str() == BUILDERS => {
-            let id = state.objects.method(env, BUILDERS, Thing::Builders(env))?;
+            let id = state.objects.object(Thing::Builders(env))?;
             Ok(Value::Object(id))
         }
         Subject::Env(env) => match variable(state, place, env, name.copy()?)? {
@@ -156,7 +156,7 @@ pub fn item(
             None => Err(no_such_key(name)),
         },
         Subject::Builders(env) => match state.declared.builder_of(env, name.as_str()) {
-            Some(number) => Ok(Value::Object(state.objects.add(Thing::Builder(number))?)),
+            Some(number) => Ok(Value::Object(state.objects.object(Thing::Builder(number))?)),
             None => Err(no_such_key(name)),
         },
         Subject::Path(_) | Subject::Made | Subject::Called => Err(not_indexed(state, heap, object)),

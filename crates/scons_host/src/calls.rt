@@ -14,7 +14,7 @@ use py_heap::{Heap, HostId, Value};
 use py_host::{Args, Place, Reply, Scope};
 use scons_base::{EnvId, Text, Texts};
 use scons_calls::{
-    CallFault, Exports, Name, Request, Shared, Thing, Valued, own_request_of, request_of,
+    CallFault, Exports, NameId, Request, Shared, Thing, Valued, own_request_of, request_of,
 };
 use world_api::World;
 
@@ -55,7 +55,7 @@ fn requested(
     match state.objects.thing(object) {
         Some(Thing::Name(name)) => named(state, heap, default, *name, args),
         Some(Thing::Method(env, name)) => {
-            let asked = request_of(heap, &state.objects, *name, args);
+            let asked = request_of(heap, &state.objects, name.name(), args);
             Ok((*env, taken(state, name.text(), asked)?))
         }
         Some(Thing::OwnMethod(env, name)) => {
@@ -80,14 +80,14 @@ fn named(
     state: &State,
     heap: &Heap,
     env: EnvId,
-    name: Name,
+    name: NameId,
     args: &Args,
 ) -> Result<(EnvId, Request), Refusal> {
     let text = name.text();
     let asked = if state.declared.builder_of(env, text).is_some() {
         own_request_of(heap, &state.objects, &Text::of(state.alloc, text)?, args)
     } else {
-        request_of(heap, &state.objects, name, args)
+        request_of(heap, &state.objects, name.name(), args)
     };
     Ok((env, taken(state, text, asked)?))
 }

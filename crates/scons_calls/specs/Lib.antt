@@ -1,0 +1,11 @@
+pub mod Binding
+pub mod Flattening
+pub mod Identifiers
+pub mod Kinds
+pub mod Names
+pub mod Requests
+pub mod Results
+pub mod Signatures
+pub mod Things
+pub mod Values
+pub mod Variables
