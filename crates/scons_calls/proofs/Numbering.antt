@@ -25,24 +25,36 @@ first_names_more things done new n id made before =
 pub numbered_as : (things new : Things) (a b : Thing) (r : Result HostId Memory) → a ≡ b → IfOk r (λ id. numbered things a ≡ (id.0, new)) → IfOk r (λ id. numbered things b ≡ (id.0, new))
 numbered_as things new a b r e ok = subst (λ (t : Thing). IfOk r (λ id. numbered things t ≡ (id.0, new))) e ok
 
--- the object of a path or name that is equal to another is that of the other
-pub file_ok : (things new : Things) (h h2 : Objects) (p q : List ℕ) (r : Result Value ValueFault) → p ≡ q → IfOk r (λ v. shown_value h q (numbered things (thing.File p)) ≡ Ok (v, new, h2)) → IfOk r (λ v. shown_value h q (numbered things (thing.File q)) ≡ Ok (v, new, h2))
-file_ok things new h h2 p q r e ok = subst (λ (t : List ℕ). IfOk r (λ v. shown_value h q (numbered things (thing.File t)) ≡ Ok (v, new, h2))) e ok
+-- the object of a path or name that is equal to another is that of the other, shown as a text that is equal to it
+pub file_ok : (things new : Things) (h h2 : Objects) (p t q : List ℕ) (r : Result Value ValueFault) → p ≡ q → t ≡ q → IfOk r (λ v. shown_value h t (numbered things (thing.File p)) ≡ Ok (v, new, h2)) → IfOk r (λ v. shown_value h q (numbered things (thing.File q)) ≡ Ok (v, new, h2))
+file_ok things new h h2 p t q r e f ok =
+    let one : IfOk r (λ v. shown_value h t (numbered things (thing.File q)) ≡ Ok (v, new, h2)) = subst (λ (s : List ℕ). IfOk r (λ v. shown_value h t (numbered things (thing.File s)) ≡ Ok (v, new, h2))) e ok in
+    subst (λ (s : List ℕ). IfOk r (λ v. shown_value h s (numbered things (thing.File q)) ≡ Ok (v, new, h2))) f one
 
-pub dir_ok : (things new : Things) (h h2 : Objects) (p q : List ℕ) (r : Result Value ValueFault) → p ≡ q → IfOk r (λ v. shown_value h q (numbered things (thing.Dir p)) ≡ Ok (v, new, h2)) → IfOk r (λ v. shown_value h q (numbered things (thing.Dir q)) ≡ Ok (v, new, h2))
-dir_ok things new h h2 p q r e ok = subst (λ (t : List ℕ). IfOk r (λ v. shown_value h q (numbered things (thing.Dir t)) ≡ Ok (v, new, h2))) e ok
+pub file_fault : (things : Things) (h : Objects) (p t q : List ℕ) (none : ValueFault) (r : Result Value ValueFault) → p ≡ q → t ≡ q → IfErr r (λ e. e ≢ none → shown_value h t (numbered things (thing.File p)) ≡ Err e) → IfErr r (λ e. e ≢ none → shown_value h q (numbered things (thing.File q)) ≡ Err e)
+file_fault things h p t q none r e f fault =
+    let one : IfErr r (λ e. e ≢ none → shown_value h t (numbered things (thing.File q)) ≡ Err e) = subst (λ (s : List ℕ). IfErr r (λ e. e ≢ none → shown_value h t (numbered things (thing.File s)) ≡ Err e)) e fault in
+    subst (λ (s : List ℕ). IfErr r (λ e. e ≢ none → shown_value h s (numbered things (thing.File q)) ≡ Err e)) f one
 
-pub alias_ok : (things new : Things) (h h2 : Objects) (p q : List ℕ) (r : Result Value ValueFault) → p ≡ q → IfOk r (λ v. shown_value h q (numbered things (thing.Alias p)) ≡ Ok (v, new, h2)) → IfOk r (λ v. shown_value h q (numbered things (thing.Alias q)) ≡ Ok (v, new, h2))
-alias_ok things new h h2 p q r e ok = subst (λ (t : List ℕ). IfOk r (λ v. shown_value h q (numbered things (thing.Alias t)) ≡ Ok (v, new, h2))) e ok
+pub dir_ok : (things new : Things) (h h2 : Objects) (p t q : List ℕ) (r : Result Value ValueFault) → p ≡ q → t ≡ q → IfOk r (λ v. shown_value h t (numbered things (thing.Dir p)) ≡ Ok (v, new, h2)) → IfOk r (λ v. shown_value h q (numbered things (thing.Dir q)) ≡ Ok (v, new, h2))
+dir_ok things new h h2 p t q r e f ok =
+    let one : IfOk r (λ v. shown_value h t (numbered things (thing.Dir q)) ≡ Ok (v, new, h2)) = subst (λ (s : List ℕ). IfOk r (λ v. shown_value h t (numbered things (thing.Dir s)) ≡ Ok (v, new, h2))) e ok in
+    subst (λ (s : List ℕ). IfOk r (λ v. shown_value h s (numbered things (thing.Dir q)) ≡ Ok (v, new, h2))) f one
 
-pub file_fault : (things : Things) (h : Objects) (p q : List ℕ) (none : ValueFault) (r : Result Value ValueFault) → p ≡ q → IfErr r (λ e. e ≢ none → shown_value h q (numbered things (thing.File p)) ≡ Err e) → IfErr r (λ e. e ≢ none → shown_value h q (numbered things (thing.File q)) ≡ Err e)
-file_fault things h p q none r e fault = subst (λ (t : List ℕ). IfErr r (λ e. e ≢ none → shown_value h q (numbered things (thing.File t)) ≡ Err e)) e fault
+pub dir_fault : (things : Things) (h : Objects) (p t q : List ℕ) (none : ValueFault) (r : Result Value ValueFault) → p ≡ q → t ≡ q → IfErr r (λ e. e ≢ none → shown_value h t (numbered things (thing.Dir p)) ≡ Err e) → IfErr r (λ e. e ≢ none → shown_value h q (numbered things (thing.Dir q)) ≡ Err e)
+dir_fault things h p t q none r e f fault =
+    let one : IfErr r (λ e. e ≢ none → shown_value h t (numbered things (thing.Dir q)) ≡ Err e) = subst (λ (s : List ℕ). IfErr r (λ e. e ≢ none → shown_value h t (numbered things (thing.Dir s)) ≡ Err e)) e fault in
+    subst (λ (s : List ℕ). IfErr r (λ e. e ≢ none → shown_value h s (numbered things (thing.Dir q)) ≡ Err e)) f one
 
-pub dir_fault : (things : Things) (h : Objects) (p q : List ℕ) (none : ValueFault) (r : Result Value ValueFault) → p ≡ q → IfErr r (λ e. e ≢ none → shown_value h q (numbered things (thing.Dir p)) ≡ Err e) → IfErr r (λ e. e ≢ none → shown_value h q (numbered things (thing.Dir q)) ≡ Err e)
-dir_fault things h p q none r e fault = subst (λ (t : List ℕ). IfErr r (λ e. e ≢ none → shown_value h q (numbered things (thing.Dir t)) ≡ Err e)) e fault
+pub alias_ok : (things new : Things) (h h2 : Objects) (p t q : List ℕ) (r : Result Value ValueFault) → p ≡ q → t ≡ q → IfOk r (λ v. shown_value h t (numbered things (thing.Alias p)) ≡ Ok (v, new, h2)) → IfOk r (λ v. shown_value h q (numbered things (thing.Alias q)) ≡ Ok (v, new, h2))
+alias_ok things new h h2 p t q r e f ok =
+    let one : IfOk r (λ v. shown_value h t (numbered things (thing.Alias q)) ≡ Ok (v, new, h2)) = subst (λ (s : List ℕ). IfOk r (λ v. shown_value h t (numbered things (thing.Alias s)) ≡ Ok (v, new, h2))) e ok in
+    subst (λ (s : List ℕ). IfOk r (λ v. shown_value h s (numbered things (thing.Alias q)) ≡ Ok (v, new, h2))) f one
 
-pub alias_fault : (things : Things) (h : Objects) (p q : List ℕ) (none : ValueFault) (r : Result Value ValueFault) → p ≡ q → IfErr r (λ e. e ≢ none → shown_value h q (numbered things (thing.Alias p)) ≡ Err e) → IfErr r (λ e. e ≢ none → shown_value h q (numbered things (thing.Alias q)) ≡ Err e)
-alias_fault things h p q none r e fault = subst (λ (t : List ℕ). IfErr r (λ e. e ≢ none → shown_value h q (numbered things (thing.Alias t)) ≡ Err e)) e fault
+pub alias_fault : (things : Things) (h : Objects) (p t q : List ℕ) (none : ValueFault) (r : Result Value ValueFault) → p ≡ q → t ≡ q → IfErr r (λ e. e ≢ none → shown_value h t (numbered things (thing.Alias p)) ≡ Err e) → IfErr r (λ e. e ≢ none → shown_value h q (numbered things (thing.Alias q)) ≡ Err e)
+alias_fault things h p t q none r e f fault =
+    let one : IfErr r (λ e. e ≢ none → shown_value h t (numbered things (thing.Alias q)) ≡ Err e) = subst (λ (s : List ℕ). IfErr r (λ e. e ≢ none → shown_value h t (numbered things (thing.Alias s)) ≡ Err e)) e fault in
+    subst (λ (s : List ℕ). IfErr r (λ e. e ≢ none → shown_value h s (numbered things (thing.Alias q)) ≡ Err e)) f one
 
 pub ruleset naming = (file_ok, dir_ok, alias_ok, file_fault, dir_fault, alias_fault)
 

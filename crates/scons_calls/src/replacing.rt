@@ -1,7 +1,7 @@
 //! What a script says is replaced in a text.
-ghost use Rattle.std.specs.Prelude.{◌≡◌, ◌≢◌, Ok, Err, IfOk, IfErr};
+ghost use Rattle.std.specs.Prelude.{◌≡◌, ◌≢◌, Ok, Err, IfOk, IfErr, OnOk};
 ghost use Rattle.scons_calls.specs.Kinds.{key_by, replacement_by, replaced_pair, pairs_by, pairs_in, replacing_fault};
-ghost use Rattle.scons_calls.specs.Results.{each};
+ghost use Rattle.scons_calls.specs.Results.{and_one, each};
 
 use crate::fault::CallFault;
 use crate::pairs::pair_at;
@@ -30,10 +30,18 @@ fn pairs_of(heap: &Heap, dict: DictId) -> Result<Pairs, CallFault>
     let mut pairs = Listing::empty(heap.allocator());
     'pairs: for at in 0..heap.dict_len(dict) {
         if let Some(pair) = pair_at(heap, dict, at) {
-            pairs.push(pair_of(heap, pair)?)?;
+            push_pair(heap, &mut pairs, pair)?;
         }
     }
     Ok(pairs)
+}
+
+fn push_pair(heap: &Heap, pairs: &mut Pairs, pair: (Value, Value)) -> Result<(), CallFault>
+    ensures ok { OnOk result (and_one pairs.old (replaced_pair heap.now pair) ≡ Ok pairs.new) }
+    ensures fault { IfErr result (λ e. e ≢ CallFault.Memory →
+        and_one pairs.old (replaced_pair heap.now pair) ≡ Err e) }
+{
+    Ok(pairs.push(pair_of(heap, pair)?)?)
 }
 
 fn pair_of(heap: &Heap, pair: (Value, Value)) -> Result<(Text, Text), CallFault>

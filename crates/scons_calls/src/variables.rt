@@ -3,7 +3,7 @@ ghost use Rattle.std.specs.Prelude.{◌≡◌, ◌≢◌, Ok, Err, IfOk, IfErr, 
 ghost use Rattle.std.specs.List.{list_all};
 ghost use Rattle.env_vars.specs.Given.{flag_text};
 ghost use Rattle.scons_calls.specs.Identifiers.{is_letter, is_part, is_identifier};
-ghost use Rattle.scons_calls.specs.Results.{and_more, each, each_joined};
+ghost use Rattle.scons_calls.specs.Results.{and_one, and_more, each, each_joined};
 ghost use Rattle.scons_calls.specs.Variables.{item_by, item_of, entry_by, pair_by, dict_by, definition_by, define_by, only, macro_by, macros_by, list_for, is_macros, variable_by};
 
 use crate::fault::CallFault;
@@ -138,10 +138,24 @@ fn pairs(heap: &Heap, objects: &Objects, dict: DictId) -> Result<Listing<(Text, 
     let mut pairs = Listing::empty(heap.allocator());
     'pairs: for at in 0..heap.dict_len(dict) {
         if let Some((key, value)) = pair_at(heap, dict, at) {
-            pairs.push(pair(heap, objects, key, value)?)?;
+            push_pair(heap, objects, &mut pairs, key, value)?;
         }
     }
     Ok(pairs)
+}
+
+fn push_pair(
+    heap: &Heap,
+    objects: &Objects,
+    pairs: &mut Listing<(Text, Item)>,
+    key: Value,
+    value: Value,
+) -> Result<(), CallFault>
+    ensures ok { OnOk result (and_one pairs.old (pair_by heap.now objects.now (key, value)) ≡ Ok pairs.new) }
+    ensures fault { IfErr result (λ e. e ≢ CallFault.Memory →
+        and_one pairs.old (pair_by heap.now objects.now (key, value)) ≡ Err e) }
+{
+    Ok(pairs.push(pair(heap, objects, key, value)?)?)
 }
 
 /// A pair of a dict.
