@@ -1,23 +1,39 @@
 //! Takes a world in memory through each history on its standard input, and writes what is told of it.
 //!
 //! A line `== NAME` begins a history, in a world without files in which a command makes what its sources hold. Each line below is an event:
-//! `edit PATH TEXT` (`\n` in the text stands for a line feed), `delete PATH`, `build WORDS`, and `stopped CALLS PICK WORDS`. Told are the
-//! status of each build and what it printed, and the files behind the last event; or why the history is refused, and at which event.
+//! `edit PATH TEXT` (`\n` in the text stands for a line feed), `delete PATH`, `build WORDS`, `stopped CALLS PICK WORDS`, and
+//! `turns TIMES PATH WORDS`, which sets a file to `0` and `1` in turn and builds each time. Lines of the world: `fail CODE PATH TEXT
+//! COMMAND`, `orders NUMBERS`, and `failing CALL NUMBER`. Told are the status of each build and what it printed, and the files behind the
+//! last event, by `banks` the signature banks too; or why the history is refused, and at which event. A last line `stops LAST WORDS`,
+//! `failures NUMBERS WORDS` or `cuts WORDS` goes on in many ways. `random SEED NUMBER` takes so many random histories, and compares each
+//! run with the slow functions that are the definitions of `build_model`.
 #![tactic(auto)]
 
-ghost use Rattle.std.specs.Prelude.{◌≡◌, [], None, IfSome};
-ghost use Rattle.world_mem.specs.AsAround.{around_of};
-
+mod asked;
+mod begun;
+mod closings;
+mod course;
 mod events;
+mod judged;
+mod kept;
+mod names;
+mod numbers;
+mod outset;
+mod project;
+mod random;
+mod seen;
 mod shown;
+mod texts;
 
-use crate::events::events_of;
+use crate::closings::{put_banks, put_cuts, put_failures, put_stops};
+use crate::events::{events_of, word_of};
+use crate::outset::world_of;
+use crate::random::put_random;
 use crate::shown::{put_fault, put_told};
 use build_history::history;
 use std::alloc::Global;
 use std::io;
 use trial_text::Told;
-use world_mem::{ActTable, MemWorld};
 
 fn main(rt: HostRuntime) -> io::Result<()> {
     let table = io::read_to_string(rt.alloc(), rt.reader())?;
@@ -37,31 +53,52 @@ fn put_histories(alloc: Global, told: &mut Told, table: &str) {
 fn put_history(alloc: Global, told: &mut Told, text: &str) {
     let (name, lines) = text.split_once('\n').unwrap_or((text, ""));
     told.put_all(&["== ", name, "\n"]);
-    let events = events_of(alloc, told, lines);
-    match world_of(alloc) {
-        Some(world) => match history(alloc, events.as_slice(), world) {
-            Ok(of) => put_told(told, &of),
-            Err(fault) => put_fault(told, fault),
-        },
-        None => told.refuse(),
+    match lines.strip_prefix("random ") {
+        Some(rest) => put_random(alloc, told, rest),
+        None => put_lines(alloc, told, lines),
     }
     told.end(name);
 }
 
-/// A world without files.
-fn world_of(alloc: Global) -> Option<MemWorld>
-    ensures idle { IfSome result (λ world. (around_of world.state).running ≡ []) }
-    ensures unfused { IfSome result (λ world. world.calls.fuse ≡ None) }
-{
-    let table = ActTable::new(Vec::new(alloc));
-    match MemWorld::new(
-        alloc,
-        Vec::new(alloc),
-        table,
-        Vec::new(alloc),
-        Vec::new(alloc),
-    ) {
-        Ok(world) => Some(world),
-        Err(_) => None,
+/// Tells what a history leaves, or how it ends in many ways.
+fn put_lines(alloc: Global, told: &mut Told, lines: &str) {
+    let (_, last) = lines.rsplit_once('\n').unwrap_or(("", lines));
+    let (verb, rest) = word_of(last);
+    match verb {
+        "stops" => put_stops(alloc, told, lines, rest),
+        "failures" => put_failures(alloc, told, lines, rest),
+        "cuts" => put_cuts(alloc, told, lines, rest),
+        "banks" => put_left(alloc, told, lines, true),
+        _ => put_left(alloc, told, lines, false),
     }
+}
+
+fn put_left(alloc: Global, told: &mut Told, lines: &str, with_banks: bool) {
+    let events = events_of(alloc, told, lines);
+    let untold = turns_in(told, lines);
+    match world_of(alloc, told, lines, Vec::new(alloc)) {
+        Some(world) => match history(alloc, events.as_slice(), world) {
+            Ok(left) => {
+                put_told(told, &left, untold);
+                if with_banks {
+                    put_banks(told, &left.world);
+                }
+            }
+            Err(fault) => put_fault(told, fault),
+        },
+        None => told.refuse(),
+    }
+}
+
+/// How many builds come by turns.
+fn turns_in(told: &mut Told, lines: &str) -> usize {
+    let mut turns: usize = 0;
+    for line in lines.lines() {
+        let (verb, rest) = word_of(line);
+        if verb == "turns" {
+            let (times, _) = word_of(rest);
+            turns = turns.saturating_add(told.number(times) as usize);
+        }
+    }
+    turns
 }

@@ -4,9 +4,12 @@ use scons_base::{Blob, PathText};
 use scons_top::Report;
 use trial_text::Told;
 
-/// The report of each build and what it printed, and the files behind the last event.
-pub(crate) fn put_told(told: &mut Told, history: &History) {
-    for (report, out) in history.reports.iter().zip(history.outs.iter()) {
+/// The report of each build and what it printed, and the files behind the last event. Of so many first builds only their number is
+/// told, where each has status 0.
+pub(crate) fn put_told(told: &mut Told, history: &History, untold: usize) {
+    put_untold(told, history, untold);
+    let builds = history.reports.iter().zip(history.outs.iter());
+    for (report, out) in builds.skip(untold) {
         put_build(told, report, out);
     }
     match history.world.files() {
@@ -17,11 +20,27 @@ pub(crate) fn put_told(told: &mut Told, history: &History) {
     told.put(" events\n");
 }
 
+fn put_untold(told: &mut Told, history: &History, untold: usize) {
+    if untold == 0 {
+        return;
+    }
+    for report in history.reports.iter().take(untold) {
+        if report.status != 0 {
+            told.refuse();
+        }
+    }
+    told.show(untold);
+    told.put(" builds with status 0\n");
+}
+
 fn put_build(told: &mut Told, report: &Report, out: &Blob) {
     told.put_bytes(out.as_slice());
     told.put("status ");
     told.show(report.status);
     told.put("\n");
+    for (held, by) in report.skipped.as_slice() {
+        told.put_all(&["skipped ", held.as_str(), " for ", by.as_str(), "\n"]);
+    }
 }
 
 fn put_files(told: &mut Told, files: &[(PathText, Blob)]) {
