@@ -141,7 +141,7 @@ module _ {W O E : Type 0} (m : Meaning W) where
         may = may_begin o outset along.on.jobs s along.on.past along.on.at.way known rule due.model rec due.weighed is_due room;
       }
 
-      abbrev log : IsLogged (IsJobIn o.wanted o.kept o.before s.around) (AreUnrisen o.wanted.keep o.counts) along.on.past o.before.log s.around.log
+      log : IsLogged (IsJobIn o.wanted o.kept o.before s.around) (AreUnrisen o.wanted.keep o.counts) along.on.past o.before.log s.around.log
       log = along.on.at.way.log
 
       -- a rule that may start didn't begin before
