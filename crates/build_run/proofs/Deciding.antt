@@ -119,7 +119,7 @@ module _ {W O E : Type 0} (m : Meaning W) where
     first = λ made. record {
       entries = log.entries;
       grown = log.grown ∙ ap (λ (l : List Entry). l ++ log.entries) covers.start;
-      so = λ job counts started makes. not_started job counts started (among made) makes;
+      so = λ job counts started target. not_started job counts started (among made) target;
     };
   }
     where
@@ -146,11 +146,11 @@ module _ {W O E : Type 0} (m : Meaning W) where
 
       -- a rule that may start didn't begin before
       not_started : (job : Job) (counts : Counts) → Among (Started job counts) log.entries → Among k.path due.model.targets → Contains job.targets k.path → ⊥
-      not_started job counts started own makes =
+      not_started job counts started own target =
           let begun = each_start (IsJobIn o.wanted o.kept o.before s.around) (AreUnrisen o.wanted.keep o.counts) log.are started in
           let place = begun_place o outset along.on.jobs s.around along.on.past along.on.at.way begun.stands in
           let other = makes_each o outset place.0 place.1 k.path
-          (contains_among begun.rule.targets (subst (λ (paths : List Path). Contains paths k.path) begun.of_rule.targets makes)) in
+          (contains_among begun.rule.targets (subst (λ (paths : List Path). Contains paths k.path) begun.of_rule.targets target)) in
           let same = one_rule o outset k.path other
           (makes o outset along.on.jobs s along.on.past along.on.at.way known rule due.model rec due.weighed k.path own) in
           (decided o outset along.on.jobs s along.on.past along.on.at.way known rule due.model rec due.weighed).not_began

@@ -60,16 +60,16 @@ no_start (there n) = elim n [ ]
 no_end : {A : Type 0} {j : Job} {c : Counts} {id : ℕ} {outcome : Outcome} → Among (Finished id outcome) (Started j c ∷ []) → A
 no_end (there n) = elim n [ ]
 
-end_before : {j : Job} {c : Counts} {id : ℕ} {outcome : Outcome} (entries : List Entry) → Among (Finished id outcome) (entries ++ Started j c ∷ []) →
+end_before : {id : ℕ} {outcome : Outcome} (j : Job) (c : Counts) (entries : List Entry) → Among (Finished id outcome) (entries ++ Started j c ∷ []) →
     Among (Finished id outcome) entries
-end_before entries n = elim (among_either entries n) [
+end_before j c entries n = elim (among_either entries n) [
   | inl h ↦ h
   | inr h ↦ no_end h
 ]
 
-start_before : {j : Job} {c : Counts} {id : ℕ} {outcome : Outcome} (entries : List Entry) → Among (Started j c) (entries ++ Finished id outcome ∷ []) →
+start_before : {j : Job} {c : Counts} (id : ℕ) (outcome : Outcome) (entries : List Entry) → Among (Started j c) (entries ++ Finished id outcome ∷ []) →
     Among (Started j c) entries
-start_before entries n = elim (among_either entries n) [
+start_before id outcome entries n = elim (among_either entries n) [
   | inl h ↦ h
   | inr h ↦ no_start h
 ]
@@ -82,10 +82,10 @@ last_outcome : {id own : ℕ} {outcome last : Outcome} → Among (Finished id ou
 last_outcome here = refl
 last_outcome (there n) = elim n [ ]
 
-both_end : {id own : ℕ} {one two last : Outcome} (entries : List Entry) → (Among (Finished id one) entries → Among (Finished id two) entries → one ≡ two) →
+both_end : {id : ℕ} {one two : Outcome} (own : ℕ) (last : Outcome) (entries : List Entry) → (Among (Finished id one) entries → Among (Finished id two) entries → one ≡ two) →
     ((outcome : Outcome) → id ≡ own → Among (Finished id outcome) entries → ⊥) →
     Among (Finished id one) (entries ++ Finished own last ∷ []) → Among (Finished id two) (entries ++ Finished own last ∷ []) → one ≡ two
-both_end {one = one} {two = two} entries before clash m n = elim (among_either entries m) [
+both_end {one = one} {two = two} own last entries before clash m n = elim (among_either entries m) [
   | inl a ↦ elim (among_either entries n) [
     | inl b ↦ before a b
     | inr b ↦ absurd (clash one (last_id b) a)
@@ -96,10 +96,10 @@ both_end {one = one} {two = two} entries before clash m n = elim (among_either e
   ]
 ]
 
-both_start : {j k own : Job} {c d e : Counts} (entries : List Entry) → (Among (Started j c) entries → Among (Started k d) entries → j.id ≡ k.id → j ≡ k) →
+both_start : {j k : Job} {c d : Counts} (own : Job) (e : Counts) (entries : List Entry) → (Among (Started j c) entries → Among (Started k d) entries → j.id ≡ k.id → j ≡ k) →
     IsNewId entries own.id → Among (Started j c) (entries ++ Started own e ∷ []) → Among (Started k d) (entries ++ Started own e ∷ []) →
     j.id ≡ k.id → j ≡ k
-both_start {j} {k} {own} {c} {d} entries before new m n same = elim (among_either entries m) [
+both_start {j} {k} {c} {d} own e entries before new m n same = elim (among_either entries m) [
   | inl a ↦ elim (among_either entries n) [
     | inl b ↦ before a b same
     | inr b ↦ absurd (new j c a (same ∙ ap (λ (x : Job). x.id) (last_started b)))
@@ -130,7 +130,7 @@ module _ (IsJob : Rule → Job → Type 0) (AreAt : Counts → Type 0) where
   each_ended nothing m = elim m [ ]
   each_ended (is_fresh r h) m = later (λ q b. b) (λ q d. there d) (each_ended h m)
   each_ended (has_begun {entries = entries} r j c of_rule at new h) m =
-      later (λ q b. there b) (λ q d. d) (longer (Started j c) (each_ended h (end_before entries m)))
+      later (λ q b. there b) (λ q d. d) (longer (Started j c) (each_ended h (end_before j c entries m)))
   each_ended (was_refused r h) m = later (λ q b. there b) (λ q d. there d) (each_ended h m)
   each_ended (has_ended {entries = entries} r own last ran started h) m = elim (among_either entries m) [
     | inl before ↦ later (λ q b. b) (λ q d. there d) (longer (Finished own last) (each_ended h before))
@@ -148,9 +148,9 @@ module _ (IsJob : Rule → Job → Type 0) (AreAt : Counts → Type 0) where
       Among (Started j c) entries → Among (Started k d) entries → j.id ≡ k.id → j ≡ k
   one_job nothing m n e = elim m [ ]
   one_job (is_fresh r h) m n e = one_job h m n e
-  one_job (has_begun {entries = entries} r own at_own of_rule at new h) m n e = both_start entries (λ a b f. one_job h a b f) new m n e
+  one_job (has_begun {entries = entries} r own at_own of_rule at new h) m n e = both_start own at_own entries (λ a b f. one_job h a b f) new m n e
   one_job (was_refused r h) m n e = one_job h m n e
-  one_job (has_ended {entries = entries} r own last ran started h) m n e = one_job h (start_before entries m) (start_before entries n) e
+  one_job (has_ended {entries = entries} r own last ran started h) m n e = one_job h (start_before own last entries m) (start_before own last entries n) e
   one_job (lacks_one r p h) m n e = one_job h m n e
   one_job (has_halted h) m n e = one_job h m n e
 
@@ -181,11 +181,11 @@ module _ (IsJob : Rule → Job → Type 0) (AreAt : Counts → Type 0) where
         Among (Finished id one) entries → Among (Finished id two) entries → one ≡ two
     one_ending nothing run m n = elim m [ ]
     one_ending (is_fresh r h) run m n = one_ending h run.1 m n
-    one_ending (has_begun {entries = entries} r j c of_rule at new h) run m n = one_ending h run.1 (end_before entries m) (end_before entries n)
+    one_ending (has_begun {entries = entries} r j c of_rule at new h) run m n = one_ending h run.1 (end_before j c entries m) (end_before j c entries n)
     one_ending (was_refused r h) run m n = one_ending h run.1.1 m n
     one_ending {id = id} (has_ended {past} {entries} r own last ran started h) run m n =
         let k = went r (is_done last) run in
-        both_end entries (λ a b. one_ending h k.1 a b) (λ outcome same a. not_twice r own h k.1 k.0 started id outcome same a) m n
+        both_end own last entries (λ a b. one_ending h k.1 a b) (λ outcome same a. not_twice r own h k.1 k.0 started id outcome same a) m n
     one_ending (lacks_one r p h) run m n = one_ending h run.1 m n
     one_ending (has_halted h) run m n = one_ending h run.1 m n
 
