@@ -4,7 +4,10 @@ mod Causing
 mod Reporting
 mod Requesting
 mod Building
+mod Remembered
+mod Built
 mod Stepping
+mod Keeping
 mod Clearing
 mod Opening
 mod Stopping

@@ -5,6 +5,7 @@ use Rattle.std.proofs.lemmas.Bool.{false≢true}
 use Rattle.std.proofs.lemmas.List.Elements.{All-nil, All-cons, All-push, All-map, All-weaker, All-contains, Contains-push, Contains-append_left}
 use Rattle.world_api.specs.Causes.{TreeFails}
 use Rattle.world_api.specs.Counts.{Counts}
+use Rattle.world_api.specs.Laws.{HasOnlyNow}
 use Rattle.world_api.specs.Looks.{Looks}
 use Rattle.world_api.specs.Meaning.{Meaning}
 use Rattle.world_api.specs.declared.refusal.Fault.{Fault}
@@ -14,8 +15,6 @@ use Rattle.rule_graph.specs.declared.build_fault.BuildFault.TheVariants as fault
 use Rattle.build_files.specs.Causes.{HasEndCause, HasFaultCause as HasLookFault}
 use Rattle.build_files.specs.declared.end.ListEnd.{ListEnd}
 use Rattle.build_files.specs.declared.end.ListEnd.TheVariants as list_end
-use Rattle.build_run.specs.Goings.{Stays}
-use Rattle.build_run.proofs.Goings.{stays_on}
 use Rattle.scons_report.specs.Causes.{HasFaultCause as HasListFault, HasEndCause as HasListEnd}
 use Rattle.sign_store.specs.declared.refusals.StoreRefusal.{StoreRefusal}
 use Rattle.sign_store.specs.declared.refusals.StoreRefusal.TheVariants as refusal
@@ -42,7 +41,7 @@ use Rattle.scons_top.specs.Stops.{top_of, stop_of_words, stop_of_list, stop_of_h
 use Rattle.scons_top.specs.Steps.{ServesAt, RunsTo, ComesTo, LeavesAt, ComesAt, AllComeAt, AllFoundAt, StopsAt, ReportsAt, RunEndsAt, IsTreeEnd, IsReadingStep, IsListingStep, IsBuildingStep, IsFaultOr, IsStopOr, IsTold, StopsForWords, TellsUsage, IsRefused, RefusesWords}
 use Rattle.scons_top.specs.Watching.{Watches}
 use Rattle.scons_top.proofs.Building.{ends_looked}
-use Rattle.scons_top.proofs.Watching.{stays_of}
+use Rattle.scons_top.proofs.Remembered.{keeps_looked}
 
 -- a sink may refuse at every step
 pub out_at : (at : Step) → ComesAt at top.OutFault
@@ -500,17 +499,17 @@ leaves_listing m step.Listing old new h looks = looks
 leaves_listing m step.Building old new h looks = tt
 
 -- a run that had looked before
-pub leaves_after : {W : Type 0} (m : Meaning W) (at : Step) (a b c : W) → Watches m a b → LeavesAt m at b c → LeavesAt m at a c
-leaves_after m step.Words a b c watches h = looks_joined m a b c watches.looks h
-leaves_after m step.Load a b c watches h = looks_joined m a b c watches.looks h
-leaves_after m step.Top a b c watches h = looks_joined m a b c watches.looks h
-leaves_after m step.Reading a b c watches h = looks_joined m a b c watches.looks h
-leaves_after m step.Help a b c watches h = looks_joined m a b c watches.looks h
-leaves_after m step.Requests a b c watches h = looks_joined m a b c watches.looks h
-leaves_after m step.Cleaning a b c watches h = stays_on m a b c (stays_of m a b watches) h
-leaves_after m step.Store a b c watches h = ends_looked m a b c watches.looks h
-leaves_after m step.Listing a b c watches h = looks_joined m a b c watches.looks h
-leaves_after m step.Building a b c watches h = tt
+pub leaves_after : {W : Type 0} (m : Meaning W) → HasOnlyNow m → (at : Step) (a b c : W) → Watches m a b → LeavesAt m at b c → LeavesAt m at a c
+leaves_after m only step.Words a b c watches h = looks_joined m a b c watches.looks h
+leaves_after m only step.Load a b c watches h = looks_joined m a b c watches.looks h
+leaves_after m only step.Top a b c watches h = looks_joined m a b c watches.looks h
+leaves_after m only step.Reading a b c watches h = looks_joined m a b c watches.looks h
+leaves_after m only step.Help a b c watches h = looks_joined m a b c watches.looks h
+leaves_after m only step.Requests a b c watches h = looks_joined m a b c watches.looks h
+leaves_after m only step.Cleaning a b c watches h = keeps_looked m only a b c watches h
+leaves_after m only step.Store a b c watches h = ends_looked m a b c watches.looks h
+leaves_after m only step.Listing a b c watches h = looks_joined m a b c watches.looks h
+leaves_after m only step.Building a b c watches h = tt
 
 -- by the report's own step
 pub leaves_as : {W : Type 0} (m : Meaning W) (at reported : Step) (old new : W) → reported ≡ at → LeavesAt m at old new → LeavesAt m reported old new

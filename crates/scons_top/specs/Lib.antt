@@ -1,4 +1,5 @@
 pub mod Asked
+pub mod Remembered
 pub mod Builds
 pub mod Causes
 pub mod Cleaned

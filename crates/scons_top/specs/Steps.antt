@@ -6,7 +6,6 @@ use Rattle.rule_graph.specs.declared.build_fault.BuildFault.{BuildFault}
 use Rattle.rule_graph.specs.declared.build_fault.What.TheVariants as what
 use Rattle.build_files.specs.declared.end.ListEnd.{ListEnd}
 use Rattle.build_files.specs.declared.end.ListEnd.TheVariants as list_end
-use Rattle.build_run.specs.Goings.{Stays}
 use Rattle.rule_graph.specs.declared.build_fault.BuildFault.TheVariants as fault
 use Rattle.scons_words.specs.declared.words.Words.{Words}
 use Rattle.scons_words.specs.declared.fault.UsageKind.{UsageKind}
@@ -20,6 +19,7 @@ use Rattle.scons_top.specs.declared.step.Step.TheVariants as step
 use Rattle.scons_top.specs.declared.stop.Stop.{Stop}
 use Rattle.scons_top.specs.declared.stop.Stop.TheVariants as stop
 use Rattle.scons_top.specs.Builds.{EndsBefore}
+use Rattle.scons_top.specs.Remembered.{KeepsBanks}
 use Rattle.scons_top.specs.Stops.{top_of, stop_of_words}
 
 -- which words come to which step
@@ -59,7 +59,7 @@ ComesTo said other = (said.load ≡ None) × RunsTo said other
 -- what a run leaves
 
 -- By the step at which a run ended: before it cleaned or built it only looked, or looked and began the store; cleaning changes no
--- bank. What a build does is told of builds.
+-- bank, at no moment. What a build does is told of builds.
 abbrev pub LeavesAt : {W : Type 0} → Meaning W → Step → W → W → Type 0
 LeavesAt m step.Words old new = Looks m old new
 LeavesAt m step.Load old new = Looks m old new
@@ -67,7 +67,7 @@ LeavesAt m step.Top old new = Looks m old new
 LeavesAt m step.Reading old new = Looks m old new
 LeavesAt m step.Help old new = Looks m old new
 LeavesAt m step.Requests old new = Looks m old new
-LeavesAt m step.Cleaning old new = Stays m old new
+LeavesAt m step.Cleaning old new = KeepsBanks m old new
 LeavesAt m step.Store old new = EndsBefore m old new
 LeavesAt m step.Listing old new = Looks m old new
 LeavesAt m step.Building old new = Unit {0}

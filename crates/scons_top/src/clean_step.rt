@@ -13,6 +13,7 @@ ghost use Rattle.scons_top.specs.Requested.{AskForNodes, nodes_asked};
 ghost use Rattle.scons_top.specs.Steps.{IsTreeEnd, RunEndsAt, StopsAt};
 ghost use Rattle.scons_top.specs.Stops.{OutSteps, OutReports, SinkStep};
 ghost use Rattle.scons_top.specs.Faults.{IsLateStop};
+ghost use Rattle.scons_top.specs.Remembered.{LeavesBanks};
 ghost use Rattle.scons_top.specs.Stopping.{RunsSafely};
 ghost use Rattle.world_api.specs.Statuses.{HasStatus};
 ghost use Rattle.scons_top.specs.Watching.{Watches};
@@ -47,6 +48,7 @@ pub(crate) fn clean_requests<W: World, O: Sink>(
     ensures cleans { AskForNodes graph.now requests.now → CleansAsked W.meaning words.now graph.now (nodes_asked requests.now) world.old world.new result }
     ensures stays { Stays W.meaning world.old world.new }
     ensures safe { RunsSafely W.meaning world.old world.new }
+    ensures moments { LeavesBanks W.meaning world.old world.new }
     ensures reports { OutReports W.meaning O.meaning world.old out.old world.new out.new result }
     ensures prints { ServesPrinting W.meaning O.meaning words.now Step.Cleaning graph.now requests.now world.old out.old world.new out.new result }
     ensures dry { IsTrue words.now.dry → Watches W.meaning world.old world.new }
@@ -77,6 +79,7 @@ fn clean_rules<W: World, O: Sink>(
     ensures stops { IfErr result (StopsAt Step.Cleaning) }
     ensures stays { Stays W.meaning world.old world.new }
     ensures safe { RunsSafely W.meaning world.old world.new }
+    ensures moments { LeavesBanks W.meaning world.old world.new }
     ensures steps { OutSteps W.meaning O.meaning world.old out.old world.new out.new result }
     ensures dry { IsTrue words.now.dry → Watches W.meaning world.old world.new }
     ensures late { IfErr result IsLateStop }
@@ -105,6 +108,7 @@ fn clean_all<W: World, O: Sink>(
     ensures stops { IfErr result (StopsAt Step.Cleaning) }
     ensures stays { Stays W.meaning world.old world.new }
     ensures safe { RunsSafely W.meaning world.old world.new }
+    ensures moments { LeavesBanks W.meaning world.old world.new }
     ensures steps { OutSteps W.meaning O.meaning world.old out.old world.new out.new result }
     ensures dry { IsTrue words.now.dry → Watches W.meaning world.old world.new }
     ensures late { IfErr result IsLateStop }
@@ -131,6 +135,7 @@ fn clean<W: World, O: Sink>(
     ensures stops { IfErr result (StopsAt Step.Cleaning) }
     ensures stays { Stays W.meaning world.old world.new }
     ensures safe { RunsSafely W.meaning world.old world.new }
+    ensures moments { LeavesBanks W.meaning world.old world.new }
     ensures steps { OutSteps W.meaning O.meaning world.old out.old world.new out.new result }
     ensures dry { IsTrue words.now.dry → Watches W.meaning world.old world.new }
     ensures late { IfErr result IsLateStop }
@@ -166,6 +171,7 @@ fn is_removed<W: World>(words: &Words, world: &mut W, path: &PathText) -> Result
     ensures tree { IfErr result IsTreeEnd }
     ensures stays { Stays W.meaning world.old world.new }
     ensures safe { RunsSafely W.meaning world.old world.new }
+    ensures moments { LeavesBanks W.meaning world.old world.new }
     ensures cause { HasLookCause (W.meaning.counts world.old) (W.meaning.counts world.new) result }
     ensures dry { IsTrue words.now.dry → Watches W.meaning world.old world.new }
     ensures there { W.meaning.tells world.new → IfOk result (λ is. is ≡ is_some ((W.meaning.around world.old).tree path.now)) }
@@ -185,6 +191,7 @@ fn take<W: World>(words: &Words, world: &mut W, path: &PathText) -> Result<bool,
     ensures tree { IfErr result IsTreeEnd }
     ensures stays { Stays W.meaning world.old world.new }
     ensures safe { RunsSafely W.meaning world.old world.new }
+    ensures moments { LeavesBanks W.meaning world.old world.new }
     ensures cause { HasLookCause (W.meaning.counts world.old) (W.meaning.counts world.new) result }
     ensures dry { IsTrue words.now.dry → Watches W.meaning world.old world.new }
     ensures taken { IfOk result (λ taken. taken ≡ true) }
@@ -227,6 +234,7 @@ fn remove<W: World>(world: &mut W, path: &PathText) -> Result<(), ListEnd>
     ensures tree { IfErr result IsTreeEnd }
     ensures stays { Stays W.meaning world.old world.new }
     ensures safe { RunsSafely W.meaning world.old world.new }
+    ensures moments { LeavesBanks W.meaning world.old world.new }
     ensures cause { HasLookCause (W.meaning.counts world.old) (W.meaning.counts world.new) result }
 {
     match world.remove(path) {

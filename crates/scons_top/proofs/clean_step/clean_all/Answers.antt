@@ -6,6 +6,7 @@ use Rattle.scons_top.proofs.Stepping.{stops_memory, stops_exit}
 use Rattle.scons_top.proofs.Clearing.{cleared_same, none_gone, target_cleared, target_gone, targets_gone}
 use Rattle.std.proofs.lemmas.List.{take_all}
 use Rattle.scons_top.proofs.Stopping.{steps_here, steps_on}
+use Rattle.scons_top.proofs.Remembered.{banks_here, banks_on}
 use Rattle.std.proofs.Common.{arith, ◌≡◌, ◌∙◌, ◌+◌, refl, take}
 use Rattle.build_run.proofs.Goings.{stays_here, stays_on}
 use Rattle.scons_top.proofs.Watching.{idle_on, watches_on, watches_same}
@@ -26,6 +27,7 @@ loop-target-preserved g c = record {
   stays = stays_on _ _ _ _ c.loop-target.invariant.stays c.clean.ensures.stays;
   same = λ err. c.in_ok-clean.ensures.steps err ∙ c.loop-target.invariant.same err;
   safe = steps_on _ _ _ _ c.clean.ensures.stays.goes.passes.told c.loop-target.invariant.safe c.clean.ensures.safe;
+  moments = banks_on _ _ _ _ c.loop-target.invariant.moments c.clean.ensures.moments;
   dry = λ is. watches_on _ _ _ _ (c.loop-target.invariant.dry is) (c.clean.ensures.dry is);
   cleared = target_cleared g.W.Disk.meaning c.args.graph.now c.args.targets.now c.loop-target.target-index _ _ c.args.world.now c.loop-target.world c.clean.new.world
       c.loop-target-test.true c.in_ok-path_of.ensures.at c.clean.ensures.stays.goes.passes.told.told c.loop-target.invariant.cleared c.clean.ensures.cleared;
@@ -63,11 +65,16 @@ pub returns-in_err-clean-clause-safe : goal.returns-in_err-clean-clause-safe
 returns-in_err-clean-clause-safe g c =
     steps_on _ _ _ _ c.clean.ensures.stays.goes.passes.told c.loop-target.invariant.safe c.clean.ensures.safe
 
+pub returns-in_err-clean-clause-moments : goal.returns-in_err-clean-clause-moments
+returns-in_err-clean-clause-moments g c =
+    banks_on _ _ _ _ c.loop-target.invariant.moments c.clean.ensures.moments
+
 pub loop-target-init : goal.loop-target-init
 loop-target-init g c = record {
   stays = stays_here g.W.Disk.meaning c.args.world.now;
   same = λ err. refl;
   safe = steps_here g.W.Disk.meaning g.met.W.Disk.only_now c.args.world.now;
+  moments = banks_here g.W.Disk.meaning g.met.W.Disk.only_now c.args.world.now;
   dry = λ is. watches_same g.W.Disk.meaning c.args.world.now;
   cleared = λ t. cleared_same _ _;
   gone = none_gone g.W.Disk.meaning c.args.words.now c.args.graph.now c.args.targets.now c.args.world.now;

@@ -10,6 +10,7 @@ use Rattle.scons_top.proofs.Stepping.{stops_memory, stops_exit}
 use Rattle.scons_top.proofs.Clearing.{as_cleared, as_removed, cleared_same, no_rule_gone, rule_cleared, rule_gone, rules_gone}
 use Rattle.std.proofs.lemmas.List.{take_all}
 use Rattle.scons_top.proofs.Stopping.{steps_here, steps_on}
+use Rattle.scons_top.proofs.Remembered.{banks_here, banks_on}
 use Rattle.std.proofs.Common.{arith, ◌≡◌, ◌∙◌, ◌+◌, refl, take}
 use Rattle.build_run.proofs.Goings.{stays_here, stays_on}
 use Rattle.scons_top.proofs.Watching.{idle_on, watches_on, watches_same}
@@ -30,6 +31,7 @@ loop-rule-preserved g c = record {
   stays = stays_on _ _ _ _ c.loop-rule.invariant.stays c.clean_all.ensures.stays;
   same = λ err. c.in_ok-clean_all.ensures.steps err ∙ c.loop-rule.invariant.same err;
   safe = steps_on _ _ _ _ c.clean_all.ensures.stays.goes.passes.told c.loop-rule.invariant.safe c.clean_all.ensures.safe;
+  moments = banks_on _ _ _ _ c.loop-rule.invariant.moments c.clean_all.ensures.moments;
   dry = λ is. watches_on _ _ _ _ (c.loop-rule.invariant.dry is) (c.clean_all.ensures.dry is);
   cleared = rule_cleared g.W.Disk.meaning c.args.graph.now c.args.rules.now c.loop-rule.rule-index _ _ c.args.world.now c.loop-rule.world c.clean_all.new.world
       c.loop-rule-test.true c.in_ok-rule_at.ensures.at c.clean_all.ensures.stays.goes.passes.told.told c.loop-rule.invariant.cleared
@@ -72,11 +74,16 @@ pub returns-in_err-clean_all-clause-safe : goal.returns-in_err-clean_all-clause-
 returns-in_err-clean_all-clause-safe g c =
     steps_on _ _ _ _ c.clean_all.ensures.stays.goes.passes.told c.loop-rule.invariant.safe c.clean_all.ensures.safe
 
+pub returns-in_err-clean_all-clause-moments : goal.returns-in_err-clean_all-clause-moments
+returns-in_err-clean_all-clause-moments g c =
+    banks_on _ _ _ _ c.loop-rule.invariant.moments c.clean_all.ensures.moments
+
 pub loop-rule-init : goal.loop-rule-init
 loop-rule-init g c = record {
   stays = stays_here g.W.Disk.meaning c.args.world.now;
   same = λ err. refl;
   safe = steps_here g.W.Disk.meaning g.met.W.Disk.only_now c.args.world.now;
+  moments = banks_here g.W.Disk.meaning g.met.W.Disk.only_now c.args.world.now;
   dry = λ is. watches_same g.W.Disk.meaning c.args.world.now;
   cleared = λ t. cleared_same _ _;
   gone = no_rule_gone g.W.Disk.meaning c.args.words.now c.args.graph.now c.args.rules.now c.args.world.now;
