@@ -1,5 +1,5 @@
 -- What a run built, told of the world as the run found it.
-use Rattle.std.proofs.Common.{◌≡◌, ◌≤◌, ◌++◌, arith, ◌∙◌, inl, inr, refl, sym, subst, ap, ℕ, Bool, List, [], true, false, Some}
+use Rattle.std.proofs.Common.{◌≡◌, ◌++◌, ◌∙◌, inl, inr, refl, sym, subst, ap, ℕ, Bool, List, [], true, false, Some}
 use Rattle.std.specs.Prelude.{◌≢◌, Result, Ok, Err, IsErrAnd}
 use Rattle.std.proofs.lemmas.Bool.{false≢true}
 use Rattle.scons_base.specs.Rising.{Rose}
@@ -30,7 +30,7 @@ use Rattle.build_run.specs.Skips.{AreSkips}
 use Rattle.rule_graph.specs.declared.build_fault.BuildFault.{BuildFault}
 use Rattle.scons_top.proofs.Causing.{rose_on}
 use Rattle.std.proofs.lemmas.List.{append_cancel_left}
-use Rattle.build_run.specs.Counting.{RoseBy}
+use Rattle.build_run.proofs.Counting.{rose_so}
 use Rattle.build_run.specs.Unrecorded.{CountsJobs, HasCounted}
 
 -- looks
@@ -49,15 +49,12 @@ records_kept m a b kept =
 
 -- jobs that are counted
 
-rose_more : (often a b c : ℕ) → RoseBy often a b → b ≤ c → RoseBy often a c
-rose_more often a b c r le = let up = r.later in let more = r.more in record { later = omega (arith, up, le); more = omega (arith, more, le) }
-
 -- where no count fell behind
 jobs_on : (old mid new : Counts) (memory : Bool) (behind : Map) (entries : List Entry) → Later mid new → CountsJobs old mid memory behind entries
     → CountsJobs old new memory behind entries
 jobs_on old mid new memory behind entries later jobs = record {
-  failed = rose_more _ _ _ _ jobs.failed later.action;
-  broken = rose_more _ _ _ _ jobs.broken later.start;
+  failed = rose_so _ _ _ _ jobs.failed later.action;
+  broken = rose_so _ _ _ _ jobs.broken later.start;
   few = λ none. jobs.few (λ rose. none (rose_on old.disk_faults mid.disk_faults new.disk_faults rose later.disk));
 }
 

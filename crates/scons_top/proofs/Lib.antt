@@ -1,5 +1,6 @@
 mod Watching
 mod Early
+mod Counting
 mod Causing
 mod Reporting
 mod Requesting
