@@ -1,6 +1,6 @@
 -- The same build told of another run: of one that had looked before, that began the store before, or that looked behind.
-use Rattle.std.proofs.Common.{◌≡◌, ◌∙◌, inl, inr, refl, sym, subst, Bool, List, [], length, true, false}
-use Rattle.std.specs.Prelude.{◌≢◌, ◌⊎◌, All, Contains, Result, Ok, Err}
+use Rattle.std.proofs.Common.{◌≡◌, ◌∙◌, inl, inr, sym, subst, Bool, List, [], length, true, false}
+use Rattle.std.specs.Prelude.{◌≢◌, All, Contains, Result, Ok, Err}
 use Rattle.std.proofs.lemmas.Bool.{false≢true}
 use Rattle.scons_base.specs.declared.ids.NodeId.{NodeId}
 use Rattle.world_api.specs.Laws.{HasOnlyNow}
@@ -26,7 +26,6 @@ use Rattle.scons_top.specs.Stopping.{RunsSafely}
 use Rattle.scons_top.specs.Stops.{top_of}
 use Rattle.scons_top.specs.Watching.{Watches}
 use Rattle.scons_top.specs.declared.report.Report.{Report}
-use Rattle.scons_top.specs.declared.report.Top.{Top}
 use Rattle.scons_top.specs.declared.stop.Stop.{Stop}
 use Rattle.scons_top.proofs.Building.{SkipsBy, around_asked, ends_looked, jobs_of, records_kept, run_back, run_on, success_back, success_on}
 use Rattle.scons_top.proofs.Remembered.{remembers_begun, remembers_behind, remembers_looked}

@@ -36,7 +36,7 @@ use Rattle.scons_top.specs.declared.report.Top.{Top}
 use Rattle.scons_top.specs.declared.report.Top.TheVariants as top
 use Rattle.scons_top.specs.declared.stop.Stop.{Stop}
 use Rattle.scons_top.specs.declared.stop.Stop.TheVariants as stop
-use Rattle.scons_top.specs.Faults.{IsLateStop}
+use Rattle.scons_top.specs.Faults.{IsLateStop, top_of_own}
 use Rattle.scons_top.specs.Causes.{HasCause, IsTreeFault, IsStartFault, IsActionFault, HasAny, AreTold, IsCaused}
 use Rattle.scons_top.specs.Stops.{top_of, stop_of_words, stop_of_list, stop_of_host, stop_of_store, HasWorldCause, HasWorldStop, WorldStep, IsInside, IsTopStop, InnerStep, HasSinkStop, SinkStep, OnWorld, OutFails, HasStopFault, HasStop, Step, ReportStep}
 use Rattle.scons_top.specs.Counted.{AreFew}
@@ -130,7 +130,7 @@ on_world a b out err (top.TooMany what count) h = record { counts = h; out = ref
 
 -- a stop of the world
 pub world_stop : (a b : Counts) (out err : ℕ) (s : Stop) → HasWorldStop a b s → HasStop (outside a out err) (outside b out err) s
-world_stop a b out err (stop.Fault f) h = on_world a b out err f h
+world_stop a b out err (stop.Fault f) h = on_world a b out err (top_of_own f) h
 world_stop a b out err (stop.Build f) h = on_world a b out err (top_of f) h
 world_stop a b out err stop.Memory h = record { counts = h; out = omega arith; err = omega arith }
 

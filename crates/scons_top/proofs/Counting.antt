@@ -1,5 +1,5 @@
 -- That no more faults of a kind are reported than its count rose by.
-use Rattle.std.proofs.Common.{◌≡◌, ◌≤◌, ◌+◌, ◌-◌, ◌∙◌, ap, sym, subst, refl, ℕ, min, List, [], ◌∷◌, ◌++◌, Bool, true, false, map, append_assoc, append-nil, arith}
+use Rattle.std.proofs.Common.{◌≡◌, ◌≤◌, ◌+◌, ◌-◌, ◌∙◌, ap, sym, subst, refl, ℕ, min, List, [], ◌∷◌, ◌++◌, Bool, true, false, map, append_assoc, arith}
 use Rattle.std.specs.List.{count_by}
 use Rattle.rule_graph.specs.declared.build_fault.BuildFault.{BuildFault}
 use Rattle.rule_graph.specs.declared.build_fault.BuildFault.TheVariants as fault

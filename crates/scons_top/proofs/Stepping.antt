@@ -29,9 +29,11 @@ use Rattle.scons_top.specs.declared.report.Top.{Top}
 use Rattle.scons_top.specs.declared.report.Top.TheVariants as top
 use Rattle.scons_top.specs.declared.step.Step.{Step}
 use Rattle.scons_top.specs.declared.step.Step.TheVariants as step
+use Rattle.scons_top.specs.declared.stop.OwnFault.{OwnFault}
+use Rattle.scons_top.specs.declared.stop.OwnFault.TheVariants as own
 use Rattle.scons_top.specs.declared.stop.Stop.{Stop}
 use Rattle.scons_top.specs.declared.stop.Stop.TheVariants as stop
-use Rattle.scons_top.specs.Faults.{IsLateStop}
+use Rattle.scons_top.specs.Faults.{IsLateStop, top_of_own}
 use Rattle.scons_top.specs.Builds.{EndsBefore}
 use Rattle.scons_top.specs.Asked.{NamesNone, StopsFor}
 use Rattle.scons_top.specs.Foreign.{StopsByBytes}
@@ -259,7 +261,7 @@ pub has_before : (old : List Top) (f g : Top) (new : List Top) → new ≡ old +
 has_before old f g new same has = subst (λ (faults : List Top). Contains faults f) (sym same) (Contains-append_left old (g ∷ []) f has)
 
 -- of a stop
-pub stop_or_fault : (s : Stop) (f g : Top) (faults : List Top) → s ≡ stop.Fault f → g ≡ f → All (IsFaultOr g) faults → All (IsStopOr s) faults
+pub stop_or_fault : (s : Stop) (f : OwnFault) (g : Top) (faults : List Top) → s ≡ stop.Fault f → g ≡ top_of_own f → All (IsFaultOr g) faults → All (IsStopOr s) faults
 stop_or_fault s f g faults is same all =
     subst (λ (x : Stop). All (IsStopOr x) faults) (sym is) (subst (λ (x : Top). All (IsFaultOr x) faults) same all)
 
@@ -270,8 +272,9 @@ stop_or_build s f g faults is same all =
 pub stop_or_none : (s : Stop) (faults : List Top) → faults ≡ [] → All (IsStopOr s) faults
 stop_or_none s faults none = subst (λ (fs : List Top). All (IsStopOr s) fs) (sym none) (All-nil (IsStopOr s))
 
-pub told_fault : (s : Stop) (f : Top) (faults : List Top) → s ≡ stop.Fault f → Contains faults f → IsTold s faults
-told_fault s f faults is has = subst (λ (x : Stop). IsTold x faults) (sym is) has
+pub told_fault : (s : Stop) (f : OwnFault) (g : Top) (faults : List Top) → s ≡ stop.Fault f → g ≡ top_of_own f → Contains faults g → IsTold s faults
+told_fault s f g faults is same has =
+    subst (λ (x : Stop). IsTold x faults) (sym is) (subst (λ (x : Top). Contains faults x) same has)
 
 pub told_build : (s : Stop) (f : BuildFault) (g : Top) (faults : List Top) → s ≡ stop.Build f → g ≡ top_of f → Contains faults g → IsTold s faults
 told_build s f g faults is same has =
@@ -283,7 +286,7 @@ fault_comes at fault f h (inr out) = subst (ComesAt at) (sym out) (out_at at)
 
 -- the report of a run that one stop ended
 pub alone_at : (at : Step) (s : Stop) (faults : List Top) → All (IsStopOr s) faults → StopsAt at s → AllComeAt at faults
-alone_at at (stop.Fault fault) faults all h = All-weaker (IsFaultOr fault) (ComesAt at) (λ f is. fault_comes at fault f h is) faults all
+alone_at at (stop.Fault fault) faults all h = All-weaker (IsFaultOr (top_of_own fault)) (ComesAt at) (λ f is. fault_comes at (top_of_own fault) f h is) faults all
 alone_at at (stop.Build fault) faults all h = All-weaker (IsFaultOr (top_of fault)) (ComesAt at) (λ f is. fault_comes at (top_of fault) f h is) faults all
 alone_at at stop.Memory faults all h = All-weaker (IsStopOr stop.Memory) (ComesAt at) (λ f is. absurd is) faults all
 
@@ -308,22 +311,28 @@ usage_one step.Building place kind h = absurd h
 usage_build : (f : BuildFault) (place : ℕ) (kind : UsageKind) → top.Usage place kind ≡ top_of f → ⊥
 usage_build f place kind e = subst (ComesAt step.Building) (sym e) (building_fault f)
 
-usage_stop : (s : Stop) (place : ℕ) (kind : UsageKind) → IsStopOr s (top.Usage place kind) → s ≡ stop.Fault (top.Usage place kind)
-usage_stop (stop.Fault fault) place kind (inl same) = ap (λ (f : Top). stop.Fault f) (sym same)
+usage_own : (f : OwnFault) (place : ℕ) (kind : UsageKind) → top.Usage place kind ≡ top_of_own f → f ≡ own.Usage place kind
+usage_own (own.Usage at word) place kind same = cc
+usage_own (own.Reading file line why) place kind same = absurd (let no = same in cc)
+usage_own (own.UnknownTarget word) place kind same = absurd (let no = same in cc)
+usage_own (own.StoreForeign bank) place kind same = absurd (let no = same in cc)
+
+usage_stop : (s : Stop) (place : ℕ) (kind : UsageKind) → IsStopOr s (top.Usage place kind) → s ≡ stop.Fault (own.Usage place kind)
+usage_stop (stop.Fault fault) place kind (inl same) = ap (λ (f : OwnFault). stop.Fault f) (usage_own fault place kind same)
 usage_stop (stop.Fault fault) place kind (inr out) = absurd (let no = out in cc)
 usage_stop (stop.Build fault) place kind (inl same) = absurd (usage_build fault place kind same)
 usage_stop (stop.Build fault) place kind (inr out) = absurd (let no = out in cc)
 usage_stop stop.Memory place kind h = absurd h
 
 -- a fault of the words is that for which the run stopped
-pub usage_told : (s : Stop) (faults : List Top) (place : ℕ) (kind : UsageKind) → All (IsStopOr s) faults → Contains faults (top.Usage place kind) → s ≡ stop.Fault (top.Usage place kind)
+pub usage_told : (s : Stop) (faults : List Top) (place : ℕ) (kind : UsageKind) → All (IsStopOr s) faults → Contains faults (top.Usage place kind) → s ≡ stop.Fault (own.Usage place kind)
 usage_told s faults place kind all has = usage_stop s place kind (All-contains (IsStopOr s) faults (top.Usage place kind) all has)
 
 -- a run that isn't at its words has none
 pub usage_at : (at : Step) (faults : List Top) (place : ℕ) (kind : UsageKind) → AllComeAt at faults → Contains faults (top.Usage place kind) → at ≡ step.Words
 usage_at at faults place kind all has = usage_one at place kind (All-contains (ComesAt at) faults (top.Usage place kind) all has)
 
-no_usage : (at : Step) (s : Stop) (place : ℕ) (kind : UsageKind) → StopsAt at s → s ≡ stop.Fault (top.Usage place kind) → at ≡ step.Words
+no_usage : (at : Step) (s : Stop) (place : ℕ) (kind : UsageKind) → StopsAt at s → s ≡ stop.Fault (own.Usage place kind) → at ≡ step.Words
 no_usage at s place kind h is = usage_one at place kind (subst (StopsAt at) is h)
 
 -- steps behind the words tell no fault of the words

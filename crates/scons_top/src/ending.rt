@@ -20,7 +20,7 @@ use crate::report::{Report, Top};
 use crate::requests::Request;
 use crate::step::Step;
 use crate::stop::Stop;
-use crate::texts::top_text;
+use crate::texts::own_text;
 use rule_graph::{BuildFault, Graph};
 use scons_base::{Listing, Memory, NodeId, PathText, RuleId};
 use scons_report::{
@@ -96,8 +96,8 @@ pub(crate) fn ended<E: Sink>(alloc: Global, stop: Stop, step: Step, err: &mut E)
 {
     match stop {
         Stop::Fault(fault) => {
-            let text = top_text(alloc, &fault);
-            kept(alloc, err, fault, text, step)
+            let text = own_text(alloc, &fault);
+            kept(alloc, err, Top::from(fault), text, step)
         }
         Stop::Build(fault) => {
             let text = fault_text(alloc, &fault);
