@@ -1,8 +1,9 @@
 //! Cleaning: the targets of what was requested are removed.
-ghost use Rattle.std.specs.Prelude.{◌≡◌, ◌∷◌, [], None, true, IfOk, IfErr, OnOk, IsTrue, is_some, if◌then◌else◌};
+ghost use Rattle.std.specs.Prelude.{◌≡◌, ◌<◌, ◌∷◌, [], None, true, All, IfOk, IfErr, OnOk, IsTrue, is_some, length, if◌then◌else◌};
 ghost use Rattle.build_files.specs.Causes.{HasLookCause};
 ghost use Rattle.build_means.specs.Rules.{paths_of};
 ghost use Rattle.build_run.specs.Goings.{Stays};
+ghost use Rattle.rule_graph.specs.Rules.{are_below};
 ghost use Rattle.scons_report.specs.Cleaning.{rules_numbered};
 ghost use Rattle.scons_top.specs.Cleaned.{AreRemoved, CleansAsked, Cleared, is_file_kind, targets_of};
 ghost use Rattle.report_texts.specs.Texts.{removed_text};
@@ -25,7 +26,6 @@ use crate::report::Report;
 use crate::requests::Request;
 use crate::step::Step;
 use crate::stop::Stop;
-use build_files::{path_of, rule_at};
 use rule_graph::Graph;
 use scons_base::{NodeId, PathText, RuleId};
 use scons_report::{ListEnd, clean_list, cleaned_text, cleaning_text, removed_text};
@@ -44,6 +44,7 @@ pub(crate) fn clean_requests<W: World, O: Sink>(
     out: &mut O,
 ) -> Result<Report, Stop>
     requires idle { W.meaning.tells world.old → (W.meaning.around world.old).running ≡ [] }
+    requires nodes { AskForNodes graph.now requests.now }
     ensures ends { RunEndsAt Step.Cleaning result }
     ensures cleans { AskForNodes graph.now requests.now → CleansAsked W.meaning words.now graph.now (nodes_asked requests.now) world.old world.new result }
     ensures stays { Stays W.meaning world.old world.new }
@@ -74,6 +75,7 @@ fn clean_rules<W: World, O: Sink>(
     out: &mut O,
 ) -> Result<(), Stop>
     requires idle { W.meaning.tells world.old → (W.meaning.around world.old).running ≡ [] }
+    requires known { All (λ rule. rule.0 < length graph.now.rules) rules.now }
     ensures cleared { Cleared W.meaning (targets_of (rules_numbered graph.now rules.now)) world.old world.new }
     ensures gone { OnOk result (AreRemoved W.meaning words.now (targets_of (rules_numbered graph.now rules.now)) world.new) }
     ensures stops { IfErr result (StopsAt Step.Cleaning) }
@@ -87,7 +89,7 @@ fn clean_rules<W: World, O: Sink>(
     ensures prints { CleansPrinting W.meaning O.meaning words.now graph.now rules.now world.old out.old world.new out.new result }
 {
     for rule in rules {
-        let targets = rule_at(graph, *rule)?.targets.as_slice();
+        let targets = graph.rule(*rule).targets.as_slice();
         clean_all(alloc, graph, words, targets, world, out)?;
     }
     Ok(())
@@ -103,6 +105,7 @@ fn clean_all<W: World, O: Sink>(
     out: &mut O,
 ) -> Result<(), Stop>
     requires idle { W.meaning.tells world.old → (W.meaning.around world.old).running ≡ [] }
+    requires nodes { are_below (length graph.now.nodes) targets.now ≡ true }
     ensures cleared { Cleared W.meaning (paths_of graph.now targets.now) world.old world.new }
     ensures gone { OnOk result (AreRemoved W.meaning words.now (paths_of graph.now targets.now) world.new) }
     ensures stops { IfErr result (StopsAt Step.Cleaning) }
@@ -116,7 +119,7 @@ fn clean_all<W: World, O: Sink>(
     ensures prints { RemovesPrinting W.meaning O.meaning words.now (paths_of graph.now targets.now) world.old out.old world.new out.new result }
 {
     for target in targets {
-        clean(alloc, words, path_of(graph, *target)?, world, out)?;
+        clean(alloc, words, graph.path(*target), world, out)?;
     }
     Ok(())
 }

@@ -203,6 +203,7 @@ fn serve<W: World, O: Sink, E: Sink>(
 ) -> Result<Report, Stop>
     requires unclosed { W.meaning.closed world.old ≡ [] }
     requires idle { W.meaning.tells world.old → (W.meaning.around world.old).running ≡ [] }
+    requires nodes { AskForNodes graph.old requests.now }
     ensures serves { ServesAt words.now at.new }
     ensures leaves { LeavesAt W.meaning at.new world.old world.new }
     ensures ends { RunEndsAt at.new result }

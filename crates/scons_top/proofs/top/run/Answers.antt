@@ -47,6 +47,9 @@ returns-in_err-requests-clause-reports g c =
 pub returns-clause-reports : goal.returns-clause-reports
 returns-clause-reports g c = report_back _ _ _ c.serve.result (same_world _ _ _ _ c.in_ok-requests.ensures.step ∙ c.in_ok-graph.ensures.steps _) c.serve.ensures.reports
 
+pub serve-requires-clause-nodes : goal.serve-requires-clause-nodes
+serve-requires-clause-nodes g c = subst (AskForNodes c.requests_of.new.graph) (sym c.as_slice.ensures.value) c.in_ok-requests.ensures.nodes
+
 pub returns-in_err-graph-clause-builds : goal.returns-in_err-graph-clause-builds
 returns-in_err-graph-clause-builds g c =
     stops g.W.Disk.meaning c.args.words.now c.args.world.now _ c.from_residual.result _ c.from_residual.ensures.1 (inl c.read.ensures.watches.looks)
