@@ -115,6 +115,7 @@ fn request_of<W: World>(
     lookups: &mut Lookups,
     word: &Text,
 ) -> Result<Request, Stop>
+    requires { KnowsNodes graph.old lookups.old.below }
     ensures watches { Watches W.meaning world.old world.new }
     ensures step { WorldStep (W.meaning.counts world.old) (W.meaning.counts world.new) result }
     ensures stops { IfErr result (StopsFor (IsUnknownAs graph.new word.now)) }
