@@ -2,22 +2,16 @@
 use Rattle.std.proofs.Common.{◌≡◌, ℕ, zero, suc, Bool, true, false, cond, eqb, List, [], ◌∷◌, length, drop, Option, Some, None, refl, subst}
 use Rattle.std.specs.Prelude.{◌&&◌, IfSome, nat_lt}
 use Rattle.std.specs.Option.{option_map, option_and_then, option_map_or}
-use Rattle.world_api.specs.Banks.{Banks}
 use Rattle.world_api.specs.Meaning.{Meaning, IsImage}
-use Rattle.world_api.specs.declared.disk.Bank.TheVariants.{A, B}
 use Rattle.deciders.specs.Reading.{parts_of, paths_in, record_in}
 use Rattle.deciders.specs.Records.{is_valid}
 use Rattle.deciders.specs.declared.recorded.Rec.{Rec}
 use Rattle.deciders.specs.declared.version.Version.{Version}
 use Rattle.deciders.specs.declared.version.Version.TheVariants.{One, Two}
 use Rattle.deciders.proofs.Takings.{bind_some, guard_holds}
-use Rattle.sign_store.specs.Ends.{image_in}
-use Rattle.sign_store.specs.Heads.{head_of, chosen}
-use Rattle.sign_store.specs.Images.{payload_in, put_in, change_in, entry_in, applied, after_entries, entries_map, body_of, map_chosen}
+use Rattle.sign_store.specs.Images.{payload_in, put_in, change_in, entry_in, applied, after_entries, entries_map, body_of}
 use Rattle.sign_store.specs.Stores.{IsKept, map_of}
 use Rattle.sign_store.specs.Tables.{Map, nothing, is_among, with_each}
-use Rattle.sign_store.specs.declared.head.Choice.{Choice}
-use Rattle.sign_store.specs.declared.head.Choice.TheVariants as choice
 use Rattle.sign_store.specs.declared.store.Store.{Store}
 use Rattle.sign_store.proofs.EndLemmas.{ends_map}
 use Rattle.build_means.specs.Records.{HasOwnDigests}
@@ -130,16 +124,6 @@ entries_own_digests version (suc n) kept bytes have =
 pub bank_own_digests : (version : Version) (bank : List ℕ) → HaveOwnDigests (entries_map version (body_of bank))
 bank_own_digests version bank =
     entries_own_digests version (length (body_of bank)) nothing (body_of bank) (λ path rec e. none_some e)
-
-chosen_own_digests : (choice : Choice) (a b : List ℕ) → HaveOwnDigests (map_chosen choice a b)
-chosen_own_digests choice.None a b = λ path rec e. none_some e
-chosen_own_digests (choice.Foreign bank) a b = λ path rec e. none_some e
-chosen_own_digests (choice.Live A edition) a b = bank_own_digests edition.version a
-chosen_own_digests (choice.Live B edition) a b = bank_own_digests edition.version b
-
--- what any two banks stand for
-pub banks_own_digests : (banks : Banks) → HaveOwnDigests (image_in banks)
-banks_own_digests banks = chosen_own_digests (chosen (head_of (banks A)) (head_of (banks B))) (banks A) (banks B)
 
 -- what the banks read as is one of the images that stand for the store's map
 pub own_digests : {W : Type 0} (m : Meaning W) (world : W) (store : Store) →
