@@ -193,7 +193,7 @@ module _ {W : Type 0} (m : Meaning W) (w : Wanted) where
       let moments = HasThroughout m begun new in
       let truth = TellsTruth m (setting_in w (m.around begun)) begun in
       remembers_as w (image_in (m.seen old)) (m.around old) (m.counts old) truth (TellsTruth m (setting_in w (m.around old)) old)
-      moments (HasSince m old new) (truth_on m w map (image_in (m.seen old)) old begun new map around counts records safe)
+      moments (HasSince m old new) (truth_on m w (image_in (m.seen old)) map old begun new map around counts records safe)
       (λ path IsSo had since. since_begun m path IsSo old begun new told begins had since)
       (from map (image_in (m.seen old)) (m.around begun) (m.around old) (m.counts begun) (m.counts old) truth moments records around counts
       (of_build map begun new h))
