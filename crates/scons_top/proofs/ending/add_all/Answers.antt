@@ -10,7 +10,7 @@ use Rattle.scons_top.proofs.Reporting.{all_added, each_added, none_added, whole}
 use Rattle.scons_top.proofs.ending.add_all.Goals as goal
 
 pub loop-fault-init : goal.loop-fault-init
-loop-fault-init c = record { late = λ e. e; added = λ is. sym (append-nil _); each = none_added _; few = none_few _ }
+loop-fault-init c = record { late = λ e. e; added = λ is. sym (append-nil _); each = none_added _; few = none_few c.args.faults.now }
 
 pub loop-fault-preserved : goal.loop-fault-preserved
 loop-fault-preserved c = record {
@@ -19,7 +19,7 @@ loop-fault-preserved c = record {
       let t = c.has_lost-lacks.ensures is in
       all_added _ _ _ _ _ c.from.result c.from.ensures.1 (c.add-lost.ensures.added t.1) (c.loop-fault.invariant.added t.0);
   each = each_added _ _ _ _ _ c.from.result _ c.from.ensures.1 c.add-lost.ensures.added c.add-lost.ensures.lost c.loop-fault.invariant.each;
-  few = more_few _ _ _ _ _ c.from.result _ c.from.ensures.1 c.add-lost.ensures.added c.add-lost.ensures.lost c.loop-fault.invariant.few;
+  few = more_few c.args.faults.now c.loop-fault.faults c.add-lost.new.faults c.loop-fault.yielded c.in-Some.fault c.from.result _ c.from.ensures.1 c.add-lost.ensures.added c.add-lost.ensures.lost c.loop-fault.invariant.few;
 }
 
 pub returns-clause-added : goal.returns-clause-added
