@@ -7,7 +7,7 @@ use Rattle.scons_report.specs.declared.clean.Step.{Step}
 use Rattle.scons_report.specs.declared.clean.Step.TheVariants.{Enter, Leave}
 
 -- what entering each rule would put on the steps, of those that weren't seen from a place on
-cost : (ℕ → List RuleId) → ℕ → List Bool → ℕ
+pub cost : (ℕ → List RuleId) → ℕ → List Bool → ℕ
 cost led at [] = 0
 cost led at (true ∷ seen) = cost led (at + 1) seen
 cost led at (false ∷ seen) = length (led at) + 1 + cost led (at + 1) seen

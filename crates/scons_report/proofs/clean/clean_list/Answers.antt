@@ -8,7 +8,6 @@ use Rattle.scons_report.proofs.Cleaning.{clean_list_is}
 use Rattle.scons_report.proofs.WalkEnds.{enters_falls, leaves_falls}
 use Rattle.scons_report.proofs.CleanSteps.{begins, ends, leaves_on, enters_on}
 use Rattle.scons_report.proofs.clean.clean_list.Goals as goal
-use Rattle.scons_report.proofs.clean.clean_list.Goals.{in-Enter+in_ok-enter-in-Enter, in-Leave+in_ok-push-in-Leave}
 
 -- a list of which nothing could be taken off is empty
 nothing_off : {X : Type 0} (old new : List X) (n : ℕ) → old ≡ new ++ [] → new ≡ take (n - 1) old → n ≡ 0 → old ≡ []
@@ -23,45 +22,43 @@ walk-init c =
     begins (length g.rules) (led_to g) (makers_in g c.args.requested.now) c.in_ok-seen.seen.items c.enter_all.new.steps.items c.new-order.result.items none
     (c.in_ok-enter_all.ensures {u = tt} ∙ ap (λ s. s) cc) c.new-order.ensures.items
 
+pub walk-preserved-in-Continue-branch-3 : goal.walk-preserved-in-Continue-branch-3
+walk-preserved-in-Continue-branch-3 c =
+    let g = c.args.graph.now in
+    let l = c.walk in
+    let rest = c.pop.new.self.items in
+    let e = c.in_ok-enter-in-Enter.ensures {u = tt} in
+    let popped = (c.in-Some.ensures {u = tt}).items ∙ ap (λ s. rest ++ s ∷ []) c.in-Enter.is in
+    enters_on (length g.rules) (led_to g) (makers_in g c.args.requested.now) l.seen.items c.enter.new.seen.items l.steps.items rest c.enter.new.steps.items l.order.items
+    c.in-Enter.rule l.invariant popped e.seen e.steps
+
 pub walk-preserved : goal.walk-preserved
 walk-preserved c =
     let g = c.args.graph.now in
-    let count = length g.rules in
-    let led = led_to g in
-    let roots = makers_in g c.args.requested.now in
     let l = c.walk in
     let rest = c.pop.new.self.items in
-    let taken = (c.in-Some.ensures {u = tt}).items in
-    elim c.match-step.branch [
-      | in-Enter+in_ok-enter-in-Enter w ↦
-          let e = w.in_ok-enter-in-Enter.ensures {u = tt} in
-          let popped = taken ∙ ap (λ s. rest ++ s ∷ []) w.in-Enter.is in
-          rw (w.seen-is, w.steps-is, w.order-is)
-          (enters_on count led roots l.seen.items w.enter.new.seen.items l.steps.items rest w.enter.new.steps.items l.order.items w.in-Enter.rule l.invariant popped e.seen e.steps)
-      | in-Leave+in_ok-push-in-Leave w ↦
-          let popped = taken ∙ ap (λ s. rest ++ s ∷ []) w.in-Leave.is in
-          let pushed = (w.in_ok-push-in-Leave.ensures {u = tt}).items in
-          rw (w.seen-is, w.steps-is, w.order-is)
-          (leaves_on count led roots l.seen.items l.steps.items rest l.order.items w.push.new.self.items w.in-Leave.rule l.invariant popped pushed)
-    ]
+    let popped = (c.in-Some.ensures {u = tt}).items ∙ ap (λ s. rest ++ s ∷ []) c.in-Leave.is in
+    leaves_on (length g.rules) (led_to g) (makers_in g c.args.requested.now) l.seen.items l.steps.items rest l.order.items c.push.new.self.items
+    c.in-Leave.rule l.invariant popped (c.in_ok-push-in-Leave.ensures {u = tt}).items
+
+-- the measure falls
+
+pub walk-smaller-in-Continue-branch-3 : goal.walk-smaller-in-Continue-branch-3
+walk-smaller-in-Continue-branch-3 c =
+    let g = c.args.graph.now in
+    let l = c.walk in
+    let rest = c.pop.new.self.items in
+    let e = c.in_ok-enter-in-Enter.ensures {u = tt} in
+    let popped = (c.in-Some.ensures {u = tt}).items ∙ ap (λ s. rest ++ s ∷ []) c.in-Enter.is in
+    enters_falls (led_to g) l.seen.items c.enter.new.seen.items l.steps.items rest c.enter.new.steps.items c.in-Enter.rule popped e.seen e.steps
 
 pub walk-smaller : goal.walk-smaller
 walk-smaller c =
     let g = c.args.graph.now in
-    let led = led_to g in
     let l = c.walk in
     let rest = c.pop.new.self.items in
-    let taken = (c.in-Some.ensures {u = tt}).items in
-    elim c.match-step.branch [
-      | in-Enter+in_ok-enter-in-Enter w ↦
-          let e = w.in_ok-enter-in-Enter.ensures {u = tt} in
-          let popped = taken ∙ ap (λ s. rest ++ s ∷ []) w.in-Enter.is in
-          rw (w.seen-is, w.steps-is)
-          (enters_falls led l.seen.items w.enter.new.seen.items l.steps.items rest w.enter.new.steps.items w.in-Enter.rule popped e.seen e.steps)
-      | in-Leave+in_ok-push-in-Leave w ↦
-          let popped = taken ∙ ap (λ s. rest ++ s ∷ []) w.in-Leave.is in
-          rw (w.seen-is, w.steps-is) (leaves_falls led l.seen.items l.seen.items l.steps.items rest w.in-Leave.rule popped refl)
-    ]
+    let popped = (c.in-Some.ensures {u = tt}).items ∙ ap (λ s. rest ++ s ∷ []) c.in-Leave.is in
+    leaves_falls (led_to g) l.seen.items l.seen.items l.steps.items rest c.in-Leave.rule popped refl
 
 pub returns : goal.returns
 returns c = λ below.
