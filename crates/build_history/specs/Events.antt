@@ -15,7 +15,7 @@ use Rattle.sign_store.specs.Ends.{image_in}
 use Rattle.scons_words.specs.Readings.{read}
 use Rattle.scons_words.specs.declared.fault.WordsFault.{WordsFault}
 use Rattle.scons_words.specs.declared.words.Words.{Words}
-use Rattle.scons_top.specs.Builds.{Builds}
+use Rattle.scons_top.specs.Builds.{Builds, RemembersAt}
 use Rattle.scons_top.specs.Cleaned.{Cleans}
 use Rattle.scons_top.specs.Printed.{RunPrints}
 use Rattle.scons_top.specs.Steps.{AllComeAt, ComesTo, LeavesAt, RefusesWords}
@@ -55,6 +55,7 @@ pub record IsRun (words : List (List ℕ)) (old new : MemWorld) (report : Report
   pub prints : (said : Words) → read words ≡ Ok said → RunPrints world_meaning sink_meaning said report.step old out new new_out (Ok report)
   pub refused : (why : WordsFault) → read words ≡ Err why → RefusesWords why old new out new_out report
   pub safe : RunsSafely world_meaning old new
+  pub remembers : (said : Words) → read words ≡ Ok said → RemembersAt world_meaning said report.step old new report
   pub idle : (around_in new).running ≡ []
 
 -- The same world, which fails from so many calls on.

@@ -1,5 +1,6 @@
 mod CleanEnters
 mod CleanSteps
+mod WalkEnds
 mod Cleaning
 mod Drying
 mod Ending

@@ -17,7 +17,7 @@ pub(crate) enum Step {
 }
 
 /// The declared rules that the requested nodes lead to by sources, Depends, libraries and Requires, depth first, each once
-/// and after those that it leads to. There are never as many steps as there are numbers.
+/// and after those that it leads to.
 pub fn clean_list(
     alloc: Global,
     graph: &Graph,
@@ -30,16 +30,13 @@ pub fn clean_list(
     let mut seen = Vec::from_elem(alloc, false, graph.rules() as usize)?;
     let mut steps = Vec::new(alloc);
     enter_all(graph, requested, &mut steps)?;
-    for _step in 0..usize::MAX {
-        let Some(step) = steps.pop() else {
-            return Ok(Listing::new(order));
-        };
+    'walk: while let Some(step) = steps.pop() {
         match step {
             Step::Enter(rule) => enter(graph, rule, &mut seen, &mut steps)?,
             Step::Leave(rule) => order.push(rule)?,
         }
     }
-    Err(Memory)
+    Ok(Listing::new(order))
 }
 
 /// Enters a rule, unless that was done before.

@@ -9,8 +9,7 @@ use scons_base::{Memory, NodeId, RuleId};
 use std::alloc::Global;
 use task_plan::Plan;
 
-/// The rules of a plan depth first from the requested nodes, each once and after those that it needs. There are never as many steps as
-/// there are numbers.
+/// The rules of a plan depth first from the requested nodes, each once and after those that it needs.
 pub(crate) fn build_order(
     alloc: Global,
     graph: &Graph,
@@ -23,16 +22,13 @@ pub(crate) fn build_order(
     let mut seen = Vec::from_elem(alloc, false, graph.rules() as usize)?;
     let mut steps = Vec::new(alloc);
     enter_all(graph, requested, &mut steps)?;
-    for _step in 0..usize::MAX {
-        let Some(step) = steps.pop() else {
-            return Ok(order);
-        };
+    'walk: while let Some(step) = steps.pop() {
         match step {
             Step::Enter(rule) => enter(graph, plan, rule, &mut seen, &mut steps)?,
             Step::Leave(rule) => order.push(rule)?,
         }
     }
-    Err(Memory)
+    Ok(order)
 }
 
 /// Enters a rule, unless that was done before.

@@ -24,6 +24,8 @@ use Rattle.sign_store.specs.declared.refusals.StoreRefusal.TheVariants as refusa
 use Rattle.scons_top.specs.declared.report.Top.{Top}
 use Rattle.scons_top.specs.declared.report.Top.TheVariants as top
 use Rattle.scons_top.specs.declared.step.Step.TheVariants as step
+use Rattle.scons_top.specs.declared.stop.OwnFault.{OwnFault}
+use Rattle.scons_top.specs.declared.stop.OwnFault.TheVariants as own
 use Rattle.scons_top.specs.declared.stop.Stop.{Stop}
 use Rattle.scons_top.specs.declared.stop.Stop.TheVariants as stop
 use Rattle.scons_top.specs.Asked.{asked_of, is_target, is_target_at, IsReadAs, IsToldUnknown, StopsUnknown, IsNoPath, IsUnknown, IsUnknownAs, IsUnknownOf, IsWord, IsWordIn, NamesNone, StopsFor}
@@ -31,7 +33,7 @@ use Rattle.scons_words.specs.declared.words.Words.{Words}
 use Rattle.rule_graph.specs.declared.wish.Wish.{Wish}
 use Rattle.scons_top.specs.declared.report.Report.{Report}
 use Rattle.scons_top.specs.declared.step.Step.{Step}
-use Rattle.scons_top.specs.Faults.{EarlyOnlyIf, IsEarly, IsLateStop}
+use Rattle.scons_top.specs.Faults.{EarlyOnlyIf, IsEarly, IsLateStop, top_of_own}
 use Rattle.scons_top.specs.Foreign.{StopsByBytes}
 use Rattle.scons_top.specs.Steps.{ComesAt, IsReadingStep, IsStopOr, RunEndsAt, ServesAt, StopsAt}
 use Rattle.scons_top.proofs.Stepping.{building_fault, ends_stops}
@@ -39,20 +41,11 @@ use Rattle.scons_top.specs.Stops.{top_of, stop_of_list, stop_of_store, IsInside}
 
 -- of words of which more holds
 
-fault_weaker : (P Q : List ℕ → Type 0) (f : Top) → ((word : List ℕ) → P word → Q word) → StopsFor P (stop.Fault f) → StopsFor Q (stop.Fault f)
-fault_weaker P Q (top.Usage place kind) by h = h
-fault_weaker P Q (top.Reading file line kind) by h = h
-fault_weaker P Q (top.Missing node target) by h = h
-fault_weaker P Q (top.UnknownTarget word) by h = by word h
-fault_weaker P Q (top.Cycle paths) by h = h
-fault_weaker P Q (top.ActionFailed target code) by h = h
-fault_weaker P Q (top.TreeFault path) by h = h
-fault_weaker P Q (top.StartFault target) by h = h
-fault_weaker P Q top.StoreFault by h = h
-fault_weaker P Q (top.StoreForeign bank) by h = h
-fault_weaker P Q top.OutFault by h = h
-fault_weaker P Q (top.TooLarge path size) by h = h
-fault_weaker P Q (top.TooMany what count) by h = h
+fault_weaker : (P Q : List ℕ → Type 0) (f : OwnFault) → ((word : List ℕ) → P word → Q word) → StopsFor P (stop.Fault f) → StopsFor Q (stop.Fault f)
+fault_weaker P Q (own.Usage place kind) by h = h
+fault_weaker P Q (own.Reading file line kind) by h = h
+fault_weaker P Q (own.UnknownTarget word) by h = by word h
+fault_weaker P Q (own.StoreForeign bank) by h = h
 
 pub stops_weaker : (P Q : List ℕ → Type 0) (s : Stop) → ((word : List ℕ) → P word → Q word) → StopsFor P s → StopsFor Q s
 stops_weaker P Q (stop.Fault f) by h = fault_weaker P Q f by h
@@ -64,20 +57,11 @@ ends_weaker P Q (Ok value) by h = tt
 ends_weaker P Q (Err s) by h = stops_weaker P Q s by h
 
 -- whichever words they are
-fault_asked : (P : List ℕ → Type 0) (f : Top) → StopsFor P (stop.Fault f) → ComesAt step.Requests f
-fault_asked P (top.Usage place kind) h = h
-fault_asked P (top.Reading file line kind) h = h
-fault_asked P (top.Missing node target) h = h
-fault_asked P (top.UnknownTarget word) h = tt
-fault_asked P (top.Cycle paths) h = h
-fault_asked P (top.ActionFailed target code) h = h
-fault_asked P (top.TreeFault path) h = h
-fault_asked P (top.StartFault target) h = h
-fault_asked P top.StoreFault h = h
-fault_asked P (top.StoreForeign bank) h = h
-fault_asked P top.OutFault h = h
-fault_asked P (top.TooLarge path size) h = h
-fault_asked P (top.TooMany what count) h = h
+fault_asked : (P : List ℕ → Type 0) (f : OwnFault) → StopsFor P (stop.Fault f) → ComesAt step.Requests (top_of_own f)
+fault_asked P (own.Usage place kind) h = h
+fault_asked P (own.Reading file line kind) h = h
+fault_asked P (own.UnknownTarget word) h = tt
+fault_asked P (own.StoreForeign bank) h = h
 
 pub stops_asked : (P : List ℕ → Type 0) (s : Stop) → StopsFor P s → StopsAt step.Requests s
 stops_asked P (stop.Fault f) h = fault_asked P f h
@@ -192,7 +176,7 @@ unknown_of g words i d word other lt at h =
 
 -- what a run tells of it
 
-told_by : (said : Words) (defaults : List Wish) (g : RuleGraph) (s : Stop) (word : List ℕ) → s ≡ stop.Fault (top.UnknownTarget word)
+told_by : (said : Words) (defaults : List Wish) (g : RuleGraph) (s : Stop) (word : List ℕ) → s ≡ stop.Fault (own.UnknownTarget word)
     → StopsFor (IsUnknownOf g (asked_of defaults said.requested)) s → IsToldUnknown said word
 told_by said defaults g s word is h =
     let of : IsUnknownOf g (asked_of defaults said.requested) word = subst (StopsFor (IsUnknownOf g (asked_of defaults said.requested))) is h in
@@ -238,14 +222,20 @@ serves_else said step.Building word is h = h
 unknown_build : (f : BuildFault) (word : List ℕ) → top.UnknownTarget word ≡ top_of f → ⊥
 unknown_build f word e = subst (ComesAt step.Building) (sym e) (building_fault f)
 
-told_stop : (s : Stop) (word : List ℕ) → IsStopOr s (top.UnknownTarget word) → s ≡ stop.Fault (top.UnknownTarget word)
-told_stop (stop.Fault fault) word (inl same) = ap (λ (f : Top). stop.Fault f) (sym same)
+unknown_own : (f : OwnFault) (word : List ℕ) → top.UnknownTarget word ≡ top_of_own f → f ≡ own.UnknownTarget word
+unknown_own (own.UnknownTarget other) word same = cc
+unknown_own (own.Usage place kind) word same = absurd (let no = same in cc)
+unknown_own (own.Reading file line kind) word same = absurd (let no = same in cc)
+unknown_own (own.StoreForeign bank) word same = absurd (let no = same in cc)
+
+told_stop : (s : Stop) (word : List ℕ) → IsStopOr s (top.UnknownTarget word) → s ≡ stop.Fault (own.UnknownTarget word)
+told_stop (stop.Fault fault) word (inl same) = ap (λ (f : OwnFault). stop.Fault f) (unknown_own fault word same)
 told_stop (stop.Fault fault) word (inr out) = absurd (let no = out in cc)
 told_stop (stop.Build fault) word (inl same) = absurd (unknown_build fault word same)
 told_stop (stop.Build fault) word (inr out) = absurd (let no = out in cc)
 told_stop stop.Memory word h = absurd h
 
-pub told_alone : (s : Stop) (faults : List Top) (word : List ℕ) → All (IsStopOr s) faults → Contains faults (top.UnknownTarget word) → s ≡ stop.Fault (top.UnknownTarget word)
+pub told_alone : (s : Stop) (faults : List Top) (word : List ℕ) → All (IsStopOr s) faults → Contains faults (top.UnknownTarget word) → s ≡ stop.Fault (own.UnknownTarget word)
 told_alone s faults word all has = told_stop s word (All-contains (IsStopOr s) faults (top.UnknownTarget word) all has)
 
 pub none_told : {P : Type 0} (faults : List Top) (word : List ℕ) → EarlyOnlyIf ⊥ faults → Contains faults (top.UnknownTarget word) → P

@@ -1,45 +1,37 @@
 -- What a run built, told of the world as the run found it.
-use Rattle.std.proofs.Common.{◌≡◌, ◌∙◌, inl, inr, refl, sym, subst, ap, ℕ, Bool, List, [], length, true, false, Some}
-use Rattle.std.specs.Prelude.{◌≢◌, All, Contains, Result, Ok, Err, IsErrAnd}
+use Rattle.std.proofs.Common.{◌≡◌, ◌++◌, ◌∙◌, inl, inr, refl, sym, subst, ap, ℕ, Bool, List, [], true, false, Some}
+use Rattle.std.specs.Prelude.{◌≢◌, Result, Ok, Err, IsErrAnd}
 use Rattle.std.proofs.lemmas.Bool.{false≢true}
 use Rattle.scons_base.specs.Rising.{Rose}
-use Rattle.scons_base.specs.declared.ids.NodeId.{NodeId}
 use Rattle.world_api.specs.declared.disk.Bank.TheVariants.{A, B}
-use Rattle.world_api.specs.Around.{Around}
+use Rattle.world_api.specs.Around.{Around, Entry}
 use Rattle.world_api.specs.Calls.{Asks}
 use Rattle.world_api.specs.Causes.{Later}
 use Rattle.world_api.specs.Counts.{Counts}
 use Rattle.world_api.specs.Looks.{Looks}
 use Rattle.world_api.specs.Meaning.{Meaning, BanksKept}
 use Rattle.world_api.proofs.Looking.{looks_joined, looks_same}
-use Rattle.rule_graph.specs.Graphs.{RuleGraph}
-use Rattle.rule_graph.specs.Rules.{are_below}
 use Rattle.sign_store.specs.Ends.{image_in}
 use Rattle.sign_store.specs.Images.{image_of}
 use Rattle.sign_store.specs.Tables.{Map}
 use Rattle.build_model.specs.Rules.{Path}
 use Rattle.build_means.specs.Builds.{Wanted, KeepsRecords, Rests, Runs, Succeeded, setting_in}
 use Rattle.build_files.proofs.Left.{none_runs}
-use Rattle.build_run.specs.Outsets.{AreRight, GoesByContent, HasRun, HasSucceeded, IsCleanly, LeavesRest, StandFor, BuildSucceeds}
+use Rattle.build_run.specs.Outsets.{AreRight, GoesByContent, HasRun, HasSucceeded, IsCleanly, LeavesRest, StandFor}
 use Rattle.build_run.specs.Takes.{IsLeftAt}
 use Rattle.build_run.specs.Truth.{TellsTruth}
-use Rattle.build_run.specs.declared.end.BuildEnd.{BuildEnd}
 use Rattle.world_mem.proofs.Backs.{same_around}
 use Rattle.scons_words.specs.declared.words.Words.{Words}
-use Rattle.scons_top.specs.Builds.{AskForBuild, BeginsStore, EndsBefore, wanted_by, HasBuilt, BuildsOrStops, RunBuilds}
+use Rattle.scons_top.specs.Builds.{AskForBuild, BeginsStore, EndsBefore, RunBuilds}
 use Rattle.scons_top.specs.Stopping.{RunsSafely}
-use Rattle.scons_top.specs.Watching.{Watches}
 use Rattle.scons_top.specs.declared.report.Report.{Report}
 use Rattle.scons_top.specs.declared.stop.Stop.{Stop}
-use Rattle.scons_top.specs.declared.report.Top.{Top}
-use Rattle.scons_top.specs.Stops.{top_of}
-use Rattle.build_run.specs.Causes.{HasAny}
-use Rattle.build_run.specs.Reasons.{EndsForReason, HasLast, IsLast}
-use Rattle.build_run.specs.Skips.{AreSkips, HasSkipped}
-use Rattle.build_run.specs.declared.building.Options.{Options}
+use Rattle.build_run.specs.Skips.{AreSkips}
 use Rattle.rule_graph.specs.declared.build_fault.BuildFault.{BuildFault}
-use Rattle.scons_top.specs.RunLines.{options_of}
 use Rattle.scons_top.proofs.Causing.{rose_on}
+use Rattle.std.proofs.lemmas.List.{append_cancel_left}
+use Rattle.build_run.proofs.Counting.{rose_so}
+use Rattle.build_run.specs.Unrecorded.{CountsJobs, HasCounted}
 
 -- looks
 
@@ -55,16 +47,39 @@ pub records_kept : {W : Type 0} (m : Meaning W) (a b : W) → BanksKept m a b �
 records_kept m a b kept =
     ap (λ bytes. image_of bytes (m.seen b B)) (kept A).same ∙ ap (λ bytes. image_of (m.seen a A) bytes) (kept B).same
 
+-- jobs that are counted
+
+-- where no count fell behind
+jobs_on : (old mid new : Counts) (memory : Bool) (behind : Map) (entries : List Entry) → Later mid new → CountsJobs old mid memory behind entries
+    → CountsJobs old new memory behind entries
+jobs_on old mid new memory behind entries later jobs = record {
+  failed = rose_so _ _ _ _ jobs.failed later.action;
+  broken = rose_so _ _ _ _ jobs.broken later.start;
+  few = λ none. jobs.few (λ rose. none (rose_on old.disk_faults mid.disk_faults new.disk_faults rose later.disk));
+}
+
+module _ {W : Type 0} (m : Meaning W) (w : Wanted) (map : Map) (old new : W) (behind : Map) (ended memory : Bool) where
+  log_grown : (run : HasRun m w map old new behind ended) → (m.around new).log ≡ (m.around old).log ++ run.runs.log.entries
+  log_grown run = run.runs.log.grown ∙ ap (λ (log : List Entry). log ++ run.runs.log.entries) run.rest.log
+
+  -- however its steps are told, a build started the same jobs: those that the log grew by
+  pub jobs_of : (run : HasRun m w map old new behind ended) → HasCounted m w map old new behind ended memory
+      → CountsJobs (m.counts old) (m.counts new) memory behind run.runs.log.entries
+  jobs_of run counted =
+      let same = append_cancel_left (m.around old).log counted.run.runs.log.entries run.runs.log.entries (sym (log_grown counted.run) ∙ log_grown run) in
+      subst (λ (entries : List Entry). CountsJobs (m.counts old) (m.counts new) memory behind entries) same counted.jobs
+
 -- what was done, from what was around, the counts and the records
 
--- a run of a build, with what it skipped
+-- a run of a build, with what it skipped, and what it counted of its jobs
 pub record SkipsBy {W : Type 0} (m : Meaning W) (w : Wanted) (map : Map) (old new : W) (behind : Map) (ended : Bool) (found : List BuildFault)
-    (skipped : List (Path × Path)) : Type 0 where
+    (skipped : List (Path × Path)) (memory : Bool) : Type 0 where
   pub run : HasRun m w map old new behind ended
   pub skips : ended ≡ false → AreSkips w run.kept run.left (m.around new) run.runs.steps found skipped
+  pub jobs : CountsJobs (m.counts old) (m.counts new) memory behind run.runs.log.entries
 
 record RanFrom {W : Type 0} (m : Meaning W) (w : Wanted) (map : Map) (start : Around) (counts : Counts) (new : W)
-    (behind : Map) (ended : Bool) (found : List BuildFault) (skipped : List (Path × Path)) (truth : Type 0) : Type 0 where
+    (behind : Map) (ended : Bool) (found : List BuildFault) (skipped : List (Path × Path)) (memory : Bool) (truth : Type 0) : Type 0 where
   left : Around
   kept : Map
   rest : LeavesRest (IsLeftAt w.graph start map) start map left kept
@@ -74,6 +89,7 @@ record RanFrom {W : Type 0} (m : Meaning W) (w : Wanted) (map : Map) (start : Ar
   stored : ended ≡ false → StandFor m new behind
   right : truth → GoesByContent w kept left (m.around new) → AreRight w kept left (m.around new) runs.steps
   skips : ended ≡ false → AreSkips w kept left (m.around new) runs.steps found skipped
+  jobs : CountsJobs counts (m.counts new) memory behind runs.log.entries
 
 record SucceededFrom {W : Type 0} (m : Meaning W) (w : Wanted) (map : Map) (start : Around) (counts : Counts) (new : W)
     (behind : Map) (truth : Type 0) : Type 0 where
@@ -87,17 +103,17 @@ record SucceededFrom {W : Type 0} (m : Meaning W) (w : Wanted) (map : Map) (star
 
 module _ {W : Type 0} (m : Meaning W) (w : Wanted) (before after : Map) (a b new : W) (behind : Map)
     (around : m.around b ≡ m.around a) (counts : m.counts b ≡ m.counts a) (records : after ≡ before) where
-  truth_on : RunsSafely m a b → TellsTruth m (setting_in w (m.around a)) a → TellsTruth m (setting_in w (m.around b)) b
+  pub truth_on : RunsSafely m a b → TellsTruth m (setting_in w (m.around a)) a → TellsTruth m (setting_in w (m.around b)) b
   truth_on safe told =
       subst (λ x. TellsTruth m (setting_in w x) b) (sym around)
       (safe (setting_in w (m.around a)) (λ tells sure. record { acts = refl; digests = refl }) told).now
 
-  pub run_back : RunsSafely m a b → (ended : Bool) (found : List BuildFault) (skipped : List (Path × Path))
-      → SkipsBy m w after b new behind ended found skipped → SkipsBy m w before a new behind ended found skipped
-  run_back safe ended found skipped by =
+  pub run_back : RunsSafely m a b → (ended : Bool) (found : List BuildFault) (skipped : List (Path × Path)) (memory : Bool)
+      → SkipsBy m w after b new behind ended found skipped memory → SkipsBy m w before a new behind ended found skipped memory
+  run_back safe ended found skipped memory by =
       let h = by.run in
       let truth = TellsTruth m (setting_in w (m.around b)) b in
-      let r : RanFrom m w after (m.around b) (m.counts b) new behind ended found skipped truth =
+      let r : RanFrom m w after (m.around b) (m.counts b) new behind ended found skipped memory truth =
       record {
         left = h.left;
         kept = h.kept;
@@ -108,10 +124,11 @@ module _ {W : Type 0} (m : Meaning W) (w : Wanted) (before after : Map) (a b new
         stored = h.stored;
         right = h.right;
         skips = by.skips;
+        jobs = by.jobs;
       } in
-      let one = subst (λ x. RanFrom m w after x (m.counts b) new behind ended found skipped truth) around r in
-      let two = subst (λ c. RanFrom m w after (m.around a) c new behind ended found skipped truth) counts one in
-      let back = subst (λ (map : Map). RanFrom m w map (m.around a) (m.counts a) new behind ended found skipped truth) records two in
+      let one = subst (λ x. RanFrom m w after x (m.counts b) new behind ended found skipped memory truth) around r in
+      let two = subst (λ c. RanFrom m w after (m.around a) c new behind ended found skipped memory truth) counts one in
+      let back = subst (λ (map : Map). RanFrom m w map (m.around a) (m.counts a) new behind ended found skipped memory truth) records two in
       record {
         run = record {
           left = back.left;
@@ -124,6 +141,7 @@ module _ {W : Type 0} (m : Meaning W) (w : Wanted) (before after : Map) (a b new
           right = λ told. back.right (truth_on safe told);
         };
         skips = back.skips;
+        jobs = back.jobs;
       }
 
   pub success_back : RunsSafely m a b → HasSucceeded m w after b new behind → HasSucceeded m w before a new behind
@@ -160,7 +178,7 @@ stand_looked m a b map same stands banks image = stands banks (λ bank. (same ba
 
 -- what was done, up to what is around and the count of the disk
 record RanTo {W : Type 0} (m : Meaning W) (w : Wanted) (map : Map) (old : W) (end : Around) (disk : ℕ) (behind : Map) (ended : Bool)
-    (found : List BuildFault) (skipped : List (Path × Path)) : Type 0 where
+    (found : List BuildFault) (skipped : List (Path × Path)) (after : Counts) (memory : Bool) : Type 0 where
   left : Around
   kept : Map
   rest : LeavesRest (IsLeftAt w.graph (m.around old) map) (m.around old) map left kept
@@ -169,6 +187,7 @@ record RanTo {W : Type 0} (m : Meaning W) (w : Wanted) (map : Map) (old : W) (en
   rests : ended ≡ false → Rests w kept left end runs.steps
   right : TellsTruth m (setting_in w (m.around old)) old → GoesByContent w kept left end → AreRight w kept left end runs.steps
   skips : ended ≡ false → AreSkips w kept left end runs.steps found skipped
+  jobs : CountsJobs (m.counts old) after memory behind runs.log.entries
 
 record SucceededTo {W : Type 0} (m : Meaning W) (w : Wanted) (map : Map) (old : W) (end : Around) (behind : Map) : Type 0 where
   left : Around
@@ -180,15 +199,25 @@ record SucceededTo {W : Type 0} (m : Meaning W) (w : Wanted) (map : Map) (old : 
 
 module _ {W : Type 0} (m : Meaning W) (w : Wanted) (map : Map) (old a b : W) (behind : Map)
     (around : m.around b ≡ m.around a) (same : BanksKept m a b) where
-  pub run_on : Later (m.counts a) (m.counts b) → (ended : Bool) (found : List BuildFault) (skipped : List (Path × Path))
-      → SkipsBy m w map old a behind ended found skipped → SkipsBy m w map old b behind ended found skipped
-  run_on later ended found skipped by =
+  pub run_on : Later (m.counts a) (m.counts b) → (ended : Bool) (found : List BuildFault) (skipped : List (Path × Path)) (memory : Bool)
+      → SkipsBy m w map old a behind ended found skipped memory → SkipsBy m w map old b behind ended found skipped memory
+  run_on later ended found skipped memory by =
       let h = by.run in
       let first = (m.counts old).disk_faults in
       let disk = (m.counts a).disk_faults in
-      let r : RanTo m w map old (m.around a) disk behind ended found skipped =
-      record { left = h.left; kept = h.kept; rest = h.rest; runs = h.runs; records = h.records; rests = h.rests; right = h.right; skips = by.skips } in
-      let on = subst (λ x. RanTo m w map old x disk behind ended found skipped) (sym around) r in
+      let r : RanTo m w map old (m.around a) disk behind ended found skipped (m.counts b) memory =
+      record {
+        left = h.left;
+        kept = h.kept;
+        rest = h.rest;
+        runs = h.runs;
+        records = h.records;
+        rests = h.rests;
+        right = h.right;
+        skips = by.skips;
+        jobs = jobs_on (m.counts old) (m.counts a) (m.counts b) memory behind h.runs.log.entries later by.jobs;
+      } in
+      let on = subst (λ x. RanTo m w map old x disk behind ended found skipped (m.counts b) memory) (sym around) r in
       record {
         run = record {
           left = on.left;
@@ -201,6 +230,7 @@ module _ {W : Type 0} (m : Meaning W) (w : Wanted) (map : Map) (old a b : W) (be
           right = on.right;
         };
         skips = on.skips;
+        jobs = on.jobs;
       }
 
   pub success_on : HasSucceeded m w map old a behind → HasSucceeded m w map old b behind
@@ -218,109 +248,12 @@ module _ {W : Type 0} (m : Meaning W) (w : Wanted) (map : Map) (old a b : W) (be
         clean = on.clean;
       }
 
--- the same build of another run
-
-pub built_looked : {W : Type 0} (m : Meaning W) (said : Words) (old a b : W) (report : Report) → Watches m a b → m.tells b
-    → (m.around a).running ≡ [] → HasBuilt m said old a report → HasBuilt m said old b report
-built_looked m said old a b report watches told idle h =
-    let w = wanted_by said h.graph h.requested in
-    let map = image_in (m.seen old) in
-    let around = around_asked (m.around a) (m.around b) idle (watches.looks.around told) in
-    let same = watches.looks.banks told in
-    let on = run_on m w map old a b h.kept around same watches.later h.is_ended h.found report.skipped (record { run = h.runs; skips = h.skips }) in
-    record {
-      graph = h.graph;
-      requested = h.requested;
-      are_nodes = h.are_nodes;
-      kept = h.kept;
-      is_ended = h.is_ended;
-      runs = on.run;
-      succeeds = λ well. success_on m w map old a b h.kept around same (h.succeeds well);
-      found = h.found;
-      reported = h.reported;
-      goes_on = h.goes_on;
-      skips = on.skips;
-    }
-
-pub built_back : {W : Type 0} (m : Meaning W) (said : Words) (a b new : W) (report : Report) → m.around b ≡ m.around a → m.counts b ≡ m.counts a
-    → image_in (m.seen b) ≡ image_in (m.seen a) → RunsSafely m a b → HasBuilt m said b new report → HasBuilt m said a new report
-built_back m said a b new report around counts records safe h =
-    let w = wanted_by said h.graph h.requested in
-    let before = image_in (m.seen a) in
-    let after = image_in (m.seen b) in
-    let back = run_back m w before after a b new h.kept around counts records safe h.is_ended h.found report.skipped (record { run = h.runs; skips = h.skips }) in
-    record {
-      graph = h.graph;
-      requested = h.requested;
-      are_nodes = h.are_nodes;
-      kept = h.kept;
-      is_ended = h.is_ended;
-      runs = back.run;
-      succeeds = λ well. success_back m w before after a b new h.kept around counts records safe (h.succeeds well);
-      found = h.found;
-      reported = h.reported;
-      goes_on = h.goes_on;
-      skips = back.skips;
-    }
-
--- a fault after which nothing new starts
-last_told : (memory : Bool) (faults : List BuildFault) → memory ≡ false → HasLast memory faults → HasAny IsLast faults
-last_told memory faults none (inl wanting) = absurd (false≢true (sym none ∙ wanting))
-last_told memory faults none (inr has) = has
-
--- a build behind the beginning of its store
-pub build_done : {W : Type 0} (m : Meaning W) (said : Words) (g : RuleGraph) (requested : List NodeId) (store : Map)
-    (old begun new : W) (behind : Map) (answer : BuildEnd) (report : Report)
-    → BeginsStore m old begun → RunsSafely m old begun → m.tells begun → m.counts begun ≡ m.counts old → store ≡ image_in (m.seen old)
-    → are_below (length g.nodes) requested ≡ true → (report.status ≡ 0 → (answer.faults ≡ []) × (answer.memory ≡ false))
-    → (report.status ≢ 3 → answer.memory ≡ false) → (report.status ≢ 3 → All (λ f. Contains report.faults (top_of f)) answer.faults)
-    → report.skipped ≡ answer.skipped → EndsForReason (options_of said) answer
-    → m.tells new → m.sure new → (m.tells new → m.sure new → are_below (length g.nodes) requested ≡ true → HasSkipped m (wanted_by said g requested) store begun new behind answer)
-    → BuildSucceeds m (wanted_by said g requested) store begun new behind answer → HasBuilt m said old new report
-build_done m said g requested store old begun new behind answer report begins safe told counts records nodes well memory reported
-    skipped reason tells sure skips succeeds =
-    let w = wanted_by said g requested in
-    let before = image_in (m.seen old) in
-    let around = begins.around told in
-    let ran = skips tells sure nodes in
-    let by = subst (λ (pairs : List (Path × Path)). SkipsBy m w store begun new behind answer.is_ended answer.faults pairs) (sym skipped)
-    (record { run = ran.run; skips = ran.skips }) in
-    let back = run_back m w before store old begun new behind around counts records safe answer.is_ended answer.faults report.skipped by in
-    record {
-      graph = g;
-      requested = requested;
-      are_nodes = nodes;
-      kept = behind;
-      is_ended = answer.is_ended;
-      runs = back.run;
-      succeeds = λ zero. success_back m w before store old begun new behind around counts records safe
-          (succeeds (well zero).0 (well zero).1 tells sure nodes);
-      found = answer.faults;
-      reported = reported;
-      goes_on = λ ne keep is. last_told answer.memory answer.faults (memory ne) (reason keep is);
-      skips = back.skips;
-    }
-
 -- a run that had looked before
 
 pub ends_looked : {W : Type 0} (m : Meaning W) (a b new : W) → Looks m a b → EndsBefore m b new → EndsBefore m a new
 ends_looked m a b new looks (inl more) = inl (looks_joined m a b new looks more)
 ends_looked m a b new looks (inr begun) =
     inr (record { looked = begun.looked; looks = looks_joined m a b begun.looked looks begun.looks; begins = begun.begins })
-
-steps_looked : {W : Type 0} (m : Meaning W) (said : Words) (a b new : W) (r : Result Report Stop) → Looks m a b → m.tells b
-    → (m.around a).running ≡ [] → m.counts b ≡ m.counts a → RunsSafely m a b → BuildsOrStops m said b new r → BuildsOrStops m said a new r
-steps_looked m said a b new (Ok report) looks told idle counts safe built =
-    built_back m said a b new report (around_asked (m.around a) (m.around b) idle (looks.around told)) counts
-    (records_kept m a b (looks.banks told)) safe built
-steps_looked m said a b new (Err stop) looks told idle counts safe ends = ends_looked m a b new looks ends
-
-pub builds_looked : {W : Type 0} (m : Meaning W) (said : Words) (a b new : W) (r : Result Report Stop) → Looks m a b
-    → (m.tells new → m.tells b) → (m.tells a → (m.around a).running ≡ []) → m.counts b ≡ m.counts a → RunsSafely m a b
-    → RunBuilds m said b new r → RunBuilds m said a new r
-builds_looked m said a b new r looks told idle counts safe builds = λ ask tells sure.
-    let here = told tells in
-    steps_looked m said a b new r looks here (idle (looks.told.told here)) counts safe (builds ask tells sure)
 
 -- a run that stops
 pub stops : {W : Type 0} (m : Meaning W) (said : Words) (old new : W) (r : Result Report Stop) (P : Stop → Type 0) → IsErrAnd r P

@@ -36,10 +36,12 @@ use Rattle.scons_top.specs.declared.report.Top.{Top}
 use Rattle.scons_top.specs.declared.report.Top.TheVariants as top
 use Rattle.scons_top.specs.declared.stop.Stop.{Stop}
 use Rattle.scons_top.specs.declared.stop.Stop.TheVariants as stop
-use Rattle.scons_top.specs.Faults.{IsLateStop}
+use Rattle.scons_top.specs.Faults.{IsLateStop, top_of_own}
 use Rattle.scons_top.specs.Causes.{HasCause, IsTreeFault, IsStartFault, IsActionFault, HasAny, AreTold, IsCaused}
 use Rattle.scons_top.specs.Stops.{top_of, stop_of_words, stop_of_list, stop_of_host, stop_of_store, HasWorldCause, HasWorldStop, WorldStep, IsInside, IsTopStop, InnerStep, HasSinkStop, SinkStep, OnWorld, OutFails, HasStopFault, HasStop, Step, ReportStep}
+use Rattle.scons_top.specs.Counted.{AreFew}
 use Rattle.scons_top.specs.Endings.{Found}
+use Rattle.scons_top.proofs.Counting.{few_dropped, few_more, few_none, few_on, few_one, few_tops}
 use Rattle.scons_top.proofs.Watching.{watches_same, watches_host, watches_look, watches_store, later_same, later_tree, later_disk, later_look, later_list, later_store}
 
 -- steps over the world
@@ -128,7 +130,7 @@ on_world a b out err (top.TooMany what count) h = record { counts = h; out = ref
 
 -- a stop of the world
 pub world_stop : (a b : Counts) (out err : ℕ) (s : Stop) → HasWorldStop a b s → HasStop (outside a out err) (outside b out err) s
-world_stop a b out err (stop.Fault f) h = on_world a b out err f h
+world_stop a b out err (stop.Fault f) h = on_world a b out err (top_of_own f) h
 world_stop a b out err (stop.Build f) h = on_world a b out err (top_of f) h
 world_stop a b out err stop.Memory h = record { counts = h; out = omega arith; err = omega arith }
 
@@ -301,11 +303,16 @@ found_list start now old new memory same h = subst (λ fs. Found start now fs me
 
 -- for want of memory nothing need be told
 pub found_wanting : (start now : Outside) (faults : List Top) (memory : Bool) → Found start now faults memory → Found start now faults true
-found_wanting start now faults memory h = record { later = h.later; each = h.each; told = λ is. absurd (false≢true (sym is)) }
+found_wanting start now faults memory h = record { later = h.later; each = h.each; counted = h.counted; told = λ is. absurd (false≢true (sym is)) }
 
 -- a fault is dropped for want of memory
 pub found_dropped : (start now : Outside) (faults : List Top) (f : Top) (memory : Bool) → Found start now (faults ++ f ∷ []) memory → Found start now faults true
-found_dropped start now faults f memory h = record { later = h.later; each = front_of (HasCause start now) faults f h.each; told = λ is. absurd (false≢true (sym is)) }
+found_dropped start now faults f memory h = record {
+  later = h.later;
+  each = front_of (HasCause start now) faults f h.each;
+  counted = few_dropped start now faults f h.counted;
+  told = λ is. absurd (false≢true (sym is));
+}
   where
     front_of : (P : Top → Type 0) (fs : List Top) (f : Top) → All P (fs ++ f ∷ []) → All P fs
     front_of P fs f each = (All-pop P (fs ++ f ∷ []) fs (Some f) refl each).0
@@ -330,6 +337,7 @@ found_err start counts out a b faults memory rose h =
     record {
       later = later_on start mid new h.later up;
       each = All-push (HasCause start new) faults top.OutFault (each_on start mid new faults up h.each) (inr (rose_from start.err a b h.later.err rose));
+      counted = few_more start mid new faults fault.OutFault up (inr rose) h.counted;
       told = λ is. let t = told_more start mid faults top.OutFault (h.told is) in
           record { disk = t.disk; tree = t.tree; start = t.start; action = t.action; out = t.out; err = λ ne. Contains-push faults top.OutFault };
     }
@@ -342,6 +350,7 @@ found_out start counts a b err faults memory rose h =
     record {
       later = later_on start mid new h.later up;
       each = All-push (HasCause start new) faults top.OutFault (each_on start mid new faults up h.each) (inl (rose_from start.out a b h.later.out rose));
+      counted = few_more start mid new faults fault.OutFault up (inl rose) h.counted;
       told = λ is. let t = told_more start mid faults top.OutFault (h.told is) in
           record { disk = t.disk; tree = t.tree; start = t.start; action = t.action; out = λ ne. Contains-push faults top.OutFault; err = t.err };
     }
@@ -354,15 +363,23 @@ alone a b f h = All-cons (HasCause a b) f [] h (All-nil (HasCause a b))
 same_of : (a b : Outside) → OnWorld (λ x y. y ≡ x) a b → b ≡ a
 same_of a b h = ap (λ c. outside c b.out b.err) h.counts ∙ ap (λ o. outside a.counts o b.err) h.out ∙ ap (λ e. outside a.counts a.out e) h.err
 
-own_found : (a b : Outside) (f : Top) → ((x : Outside) → HasCause x x f) → OnWorld (λ x y. y ≡ x) a b → Found a b (f ∷ []) false
-own_found a b f own h = found_as a a b (f ∷ []) false (same_of a b h) (record { later = later_here a; each = alone a a f (own a); told = λ is. none_told a (f ∷ []) })
+own_found : (a b : Outside) (f : Top) → ((x : Outside) → HasCause x x f) → ((x : Outside) → AreFew x x (f ∷ [])) → OnWorld (λ x y. y ≡ x) a b → Found a b (f ∷ []) false
+own_found a b f own few h = found_as a a b (f ∷ []) false (same_of a b h)
+    (record { later = later_here a; each = alone a a f (own a); counted = few a; told = λ is. none_told a (f ∷ []) })
+
+-- a fault of a build with no count
+inner_found : (a b : Outside) (f : BuildFault) → ((x : Outside) → HasCause x x (top_of f)) → ((x : Outside) → HasBuildCause x x f) → OnWorld (λ x y. y ≡ x) a b
+    → Found a b (top_of f ∷ []) false
+inner_found a b f own built h = own_found a b (top_of f) own (λ x. few_one x x f (later_here x) (built x)) h
 
 tree_found : (a b : Outside) (path : List ℕ) → OnWorld TreeFails a b → Found a b (top.TreeFault path ∷ []) false
 tree_found a b path h =
     let c = h.counts in let out = h.out in let err = h.err in
+    let later : IsLater a b = record { counts = later_tree a.counts b.counts c; out = omega (arith, out); err = omega (arith, err) } in
     record {
-      later = record { counts = later_tree a.counts b.counts c; out = omega (arith, out); err = omega (arith, err) };
+      later = later;
       each = alone a b (top.TreeFault path) c.rose;
+      counted = few_one a b (fault.TreeFault path) later (c.rose);
       told = λ is. record {
         disk = λ ne. absurd (ne c.disk);
         tree = λ ne. (top.TreeFault path, Contains-push [] (top.TreeFault path), tt);
@@ -376,9 +393,11 @@ tree_found a b path h =
 store_found : (a b : Outside) → OnWorld DiskFails a b → Found a b (top.StoreFault ∷ []) false
 store_found a b h =
     let c = h.counts in let out = h.out in let err = h.err in
+    let later : IsLater a b = record { counts = later_disk a.counts b.counts c; out = omega (arith, out); err = omega (arith, err) } in
     record {
-      later = record { counts = later_disk a.counts b.counts c; out = omega (arith, out); err = omega (arith, err) };
+      later = later;
       each = alone a b top.StoreFault c.rose;
+      counted = few_one a b (fault.StoreFault) later (c.rose);
       told = λ is. record {
         disk = λ ne. Contains-push [] top.StoreFault;
         tree = λ ne. absurd (ne c.tree);
@@ -392,9 +411,11 @@ store_found a b h =
 out_found : (a b : Outside) → OutFails a b → Found a b (top.OutFault ∷ []) false
 out_found a b h =
     let same = h.counts in let up = h.out.later in let err = h.err in
+    let later : IsLater a b = record { counts = later_same a.counts b.counts same; out = up; err = omega (arith, err) } in
     record {
-      later = record { counts = later_same a.counts b.counts same; out = up; err = omega (arith, err) };
+      later = later;
       each = alone a b top.OutFault (inl h.out);
+      counted = few_one a b (fault.OutFault) later (inl h.out);
       told = λ is. record {
         disk = λ ne. absurd (ne (ap (λ (c : Counts). c.disk_faults) same));
         tree = λ ne. absurd (ne (ap (λ (c : Counts). c.tree_faults) same));
@@ -406,19 +427,19 @@ out_found a b h =
     }
 
 pub stop_found : (a b : Outside) (f : Top) → HasStopFault a b f → Found a b (f ∷ []) false
-stop_found a b (top.Usage place kind) h = own_found a b (top.Usage place kind) (λ x. tt) h
-stop_found a b (top.Reading file line kind) h = own_found a b (top.Reading file line kind) (λ x. tt) h
-stop_found a b (top.Missing node target) h = own_found a b (top.Missing node target) (λ x. tt) h
-stop_found a b (top.UnknownTarget word) h = own_found a b (top.UnknownTarget word) (λ x. tt) h
-stop_found a b (top.Cycle paths) h = own_found a b (top.Cycle paths) (λ x. tt) h
+stop_found a b (top.Usage place kind) h = own_found a b (top.Usage place kind) (λ x. tt) few_none h
+stop_found a b (top.Reading file line kind) h = own_found a b (top.Reading file line kind) (λ x. tt) few_none h
+stop_found a b (top.Missing node target) h = inner_found a b (fault.Missing node target) (λ x. tt) (λ x. tt) h
+stop_found a b (top.UnknownTarget word) h = own_found a b (top.UnknownTarget word) (λ x. tt) few_none h
+stop_found a b (top.Cycle paths) h = inner_found a b (fault.Cycle paths) (λ x. tt) (λ x. tt) h
 stop_found a b (top.ActionFailed target code) h = absurd h.counts
 stop_found a b (top.TreeFault path) h = tree_found a b path h
 stop_found a b (top.StartFault target) h = absurd h.counts
 stop_found a b top.StoreFault h = store_found a b h
-stop_found a b (top.StoreForeign bank) h = own_found a b (top.StoreForeign bank) (λ x. tt) h
+stop_found a b (top.StoreForeign bank) h = own_found a b (top.StoreForeign bank) (λ x. tt) few_none h
 stop_found a b top.OutFault h = out_found a b h
-stop_found a b (top.TooLarge path size) h = own_found a b (top.TooLarge path size) (λ x. tt) h
-stop_found a b (top.TooMany what count) h = own_found a b (top.TooMany what count) (λ x. tt) h
+stop_found a b (top.TooLarge path size) h = inner_found a b (fault.TooLarge path size) (λ x. tt) (λ x. tt) h
+stop_found a b (top.TooMany what count) h = inner_found a b (fault.TooMany what count) (λ x. tt) (λ x. tt) h
 
 -- a fault of the world for which a list isn't given
 pub world_found : (old new : Counts) (out err : ℕ) (f : BuildFault) → HasWorldCause old new (top_of f) → Found (outside old out err) (outside new out err) (top_of f ∷ []) false
@@ -492,6 +513,7 @@ pub build_found : (a b : Outside) (fs : List BuildFault) (memory : Bool) → Are
 build_found a b fs memory c = record {
   later = c.later;
   each = All-map (HasCause a b) top_of fs (All-weaker (HasBuildCause a b) (λ f. HasCause a b (top_of f)) (top_cause a b) fs c.each);
+  counted = few_tops a b fs c.counted;
   told = λ is. tops_told a b fs (c.told is);
 }
 
@@ -501,16 +523,22 @@ pub found_report : (a b : Outside) (faults : List Top) (memory : Bool) (report :
 found_report a b faults memory report same said h = record {
   later = h.later;
   each = subst (λ fs. All (HasCause a b) fs) (sym same) h.each;
+  counted = subst (λ fs. AreFew a b fs) (sym same) h.counted;
   told = λ ne. subst (λ fs. AreTold a b fs) (sym same) (h.told (said ne));
 }
 
 -- a report without a fault, where nothing was at fault
 pub good_report : (a b : Outside) (report : Report) → b ≡ a → report.faults ≡ [] → IsCaused a b report
-good_report a b report same none = found_report a b [] false report none (λ ne. refl) (found_as a a b [] false same (record { later = later_here a; each = All-nil (HasCause a a); told = λ is. none_told a [] }))
+good_report a b report same none = found_report a b [] false report none (λ ne. refl) (found_as a a b [] false same (record { later = later_here a; each = All-nil (HasCause a a); counted = few_none a; told = λ is. none_told a [] }))
 
 -- a report for want of memory
 pub wanting_report : (a b : Outside) (report : Report) → IsLater a b → report.faults ≡ [] → (report.status ≢ 3 → true ≡ false) → IsCaused a b report
-wanting_report a b report later none said = found_report a b [] true report none said (record { later = later; each = All-nil (HasCause a b); told = λ is. absurd (false≢true (sym is)) })
+wanting_report a b report later none said = found_report a b [] true report none said (record {
+  later = later;
+  each = All-nil (HasCause a b);
+  counted = few_on a a b [] later (few_none a);
+  told = λ is. absurd (false≢true (sym is));
+})
 
 -- a step that is followed by a report without a fault
 pub good_step : (a b : Outside) (report : Report) → b ≡ a → report.faults ≡ [] → ReportStep a b (Ok report)

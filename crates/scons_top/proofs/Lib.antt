@@ -1,10 +1,14 @@
 mod Watching
 mod Early
+mod Counting
 mod Causing
 mod Reporting
 mod Requesting
 mod Building
+mod Remembered
+mod Built
 mod Stepping
+mod Keeping
 mod Clearing
 mod Opening
 mod Stopping

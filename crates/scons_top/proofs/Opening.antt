@@ -20,7 +20,7 @@ use Rattle.scons_top.specs.declared.step.Step.{Step}
 use Rattle.scons_top.specs.declared.step.Step.TheVariants as step
 use Rattle.scons_top.specs.declared.stop.Stop.{Stop}
 use Rattle.scons_top.specs.declared.stop.Stop.TheVariants as stop
-use Rattle.scons_top.specs.Faults.{IsLateStop}
+use Rattle.scons_top.specs.Faults.{IsLateStop, top_of_own}
 use Rattle.scons_top.specs.Asked.{NamesNone, StopsFor}
 use Rattle.scons_top.specs.Foreign.{IsOfBytes, StopsByBytes, StepByBytes, StepOnNone, IsOpened, TellsBytes, StopsAtBytes, EndsByBytes, RunByBytes}
 use Rattle.scons_top.specs.Steps.{ComesAt, AllComeAt, StopsAt, RunEndsAt, IsReadingStep, IsStopOr, IsFaultOr}
@@ -57,7 +57,7 @@ fault_elsewhere banks at (top.TooLarge path size) e h = tt
 fault_elsewhere banks at (top.TooMany what count) e h = tt
 
 stop_elsewhere : (banks : Banks) (at : Step) (s : Stop) → IsElsewhere at → StopsAt at s → StopsByBytes banks s
-stop_elsewhere banks at (stop.Fault f) e h = fault_elsewhere banks at f e h
+stop_elsewhere banks at (stop.Fault f) e h = fault_elsewhere banks at (top_of_own f) e h
 stop_elsewhere banks at (stop.Build f) e h = tt
 stop_elsewhere banks at stop.Memory e h = tt
 
@@ -158,7 +158,7 @@ build_bytes banks (fault.TooLarge path size) = tt
 build_bytes banks (fault.TooMany what count) = tt
 
 alone_bytes : (banks : Banks) (s : Stop) (faults : List Top) → All (IsStopOr s) faults → StopsByBytes banks s → All (IsOfBytes banks) faults
-alone_bytes banks (stop.Fault fault) faults all h = All-weaker (IsFaultOr fault) (IsOfBytes banks) (λ f is. or_bytes banks fault f h is) faults all
+alone_bytes banks (stop.Fault fault) faults all h = All-weaker (IsFaultOr (top_of_own fault)) (IsOfBytes banks) (λ f is. or_bytes banks (top_of_own fault) f h is) faults all
 alone_bytes banks (stop.Build f) faults all h = All-weaker (IsFaultOr (top_of f)) (IsOfBytes banks) (λ g is. or_bytes banks (top_of f) g (build_bytes banks f) is) faults all
 alone_bytes banks stop.Memory faults all h = All-weaker (IsStopOr stop.Memory) (IsOfBytes banks) (λ f is. absurd is) faults all
 

@@ -10,7 +10,7 @@ use Rattle.world_api.specs.Printing.{Prints, Cuts}
 use Rattle.world_api.specs.declared.refusal.Fault.{Fault}
 use Rattle.rule_graph.specs.declared.build_fault.BuildFault.{BuildFault}
 use Rattle.rule_graph.specs.declared.build_fault.BuildFault.TheVariants as fault
-use Rattle.build_run.specs.Causes.{Outside, outside}
+use Rattle.build_run.specs.Causes.{Outside, outside, AreCounted}
 use Rattle.scons_top.specs.declared.report.Report.{Report}
 use Rattle.scons_top.specs.declared.report.Top.{Top}
 use Rattle.scons_top.specs.declared.report.Top.TheVariants as top
@@ -18,7 +18,9 @@ use Rattle.scons_top.specs.declared.stop.Stop.{Stop}
 use Rattle.scons_top.specs.declared.stop.Stop.TheVariants as stop
 use Rattle.scons_top.specs.Causes.{HasCause, AreTold}
 use Rattle.scons_top.specs.Stops.{top_of, HasWorldCause, SinkStep, ReportStep}
-use Rattle.scons_top.specs.Endings.{Found, ErrFinds, ErrReports, ErrEnds, AddsStopped, AddsUnwritten, AddsUnprinted, Closes}
+use Rattle.scons_top.specs.Counted.{AreFew}
+use Rattle.scons_top.specs.Endings.{Found, ErrFinds, ErrReports, ErrEnds, AddsFew, AddsStopped, AddsUnwritten, AddsUnprinted, Closes}
+use Rattle.scons_top.proofs.Counting.{built_tops, few_within}
 use Rattle.scons_top.proofs.Causing.{found_as, found_list, found_wanting, found_dropped, found_err, found_out, stop_found, world_found, found_report, wanting_report, exit_report}
 
 module _ {E : Type 0} (e : SinkMeaning E) where
@@ -120,17 +122,18 @@ both_false : (a b : Bool) → a ≡ false → b ≡ false → (a || b) ≡ false
 both_false a b first second = ap (λ x. x || b) first ∙ second
 
 found_or : (start now : Outside) (faults : List Top) (memory more : Bool) → Found start now faults memory → Found start now faults (memory || more)
-found_or start now faults memory more h = record { later = h.later; each = h.each; told = λ is. h.told (or_false memory more is).0 }
+found_or start now faults memory more h = record { later = h.later; each = h.each; counted = h.counted; told = λ is. h.told (or_false memory more is).0 }
 
 found_lost : (start now : Outside) (faults : List Top) (memory : Bool) → Found start now faults true → Found start now faults (memory || true)
-found_lost start now faults memory h = record { later = h.later; each = h.each; told = λ is. absurd (false≢true (sym (or_false memory true is).1)) }
+found_lost start now faults memory h = record { later = h.later; each = h.each; counted = h.counted; told = λ is. absurd (false≢true (sym (or_false memory true is).1)) }
 
 -- the faults of a build, of which some may be lost
-taken : (start now : Outside) (all none first : List Top) (memory lacks : Bool) → none ≡ [] → (lacks ≡ false → first ≡ none ++ all) → All (Contains (none ++ all)) first
+taken : (start now : Outside) (all none first : List Top) (memory lacks : Bool) → none ≡ [] → (lacks ≡ false → first ≡ none ++ all) → All (Contains (none ++ all)) first → AreFew start now first
     → Found start now all memory → Found start now first (memory || lacks)
-taken start now all none first memory lacks is added each h = record {
+taken start now all none first memory lacks is added each few h = record {
   later = h.later;
   each = All-weaker (Contains (none ++ all)) (HasCause start now) (λ x has. All-contains (HasCause start now) all x h.each (subst (λ (fs : List Top). Contains (fs ++ all) x) is has)) first each;
+  counted = few;
   told = λ no.
       let t = or_false memory lacks no in
       subst (λ (fs : List Top). AreTold start now fs) (sym (added t.1 ∙ ap (λ (fs : List Top). fs ++ all) is)) (h.told t.0);
@@ -172,11 +175,14 @@ with_last start counts out new_out err (Err stop.Memory) first last memory lost 
 
 -- the report of a build or of a list
 pub closes : (found : List BuildFault) (none first last : List Top) (memory lacks lost : Bool) (written : Result (Unit {0}) Stop) (report : Report)
-    → none ≡ [] → (lacks ≡ false → first ≡ none ++ map top_of found) → All (Contains (none ++ map top_of found)) first
+    → none ≡ [] → (lacks ≡ false → first ≡ none ++ map top_of found) → All (Contains (none ++ map top_of found)) first → AddsFew found none first
     → AddsUnwritten written first last lost → report.faults ≡ last → (report.status ≢ 3 → (memory ≡ false) × (lacks ≡ false) × (lost ≡ false))
     → Closes found memory written report
-closes found none first last memory lacks lost written report is added each adds same said = λ start counts out new_out err h step.
-    let one = taken start (outside counts out err) (map top_of found) none first memory lacks is added each h in
+closes found none first last memory lacks lost written report is added each fewer adds same said = λ start counts out new_out err h step.
+    let now = outside counts out err in
+    let few = few_within start now first found (subst (λ (fs : List Top). AddsFew found fs first) is fewer)
+    (subst (λ (fs : List BuildFault). AreCounted start now fs) (built_tops found) h.counted) in
+    let one = taken start now (map top_of found) none first memory lacks is added each few h in
     let two = with_last start counts out new_out err written first last (memory || lacks) lost adds step one in
     found_report start (outside counts new_out err) last ((memory || lacks) || lost) report same
     (λ no. let f = said no in both_false (memory || lacks) lost (both_false memory lacks f.0 f.1) f.2) two

@@ -1,12 +1,13 @@
 -- Nodes of a graph among what is requested, also as the graph gets more of them.
 use Rattle.std.proofs.Common.{◌≡◌, ◌∙◌, ◌<◌, ◌+◌, ◌++◌, ◌∷◌, ◌&&◌, [], ℕ, Bool, true, List, length, get_or, take, ap, refl, sym, subst, append_assoc, append-nil, arith}
 use Rattle.std.specs.Prelude.{nat_lt}
-use Rattle.std.proofs.lemmas.Bool.{lt-ltb}
+use Rattle.std.proofs.lemmas.Bool.{lt-ltb, ltb-true}
 use Rattle.std.proofs.lemmas.List.{map-append, take_more}
-use Rattle.std.proofs.lemmas.List.Elements.{All-weaker, All-push, All-head, All-tail, All-append, All-get_or}
+use Rattle.std.proofs.lemmas.List.Elements.{All-weaker, All-push, All-head, All-tail, All-append, All-cons, All-get_or, All-nil}
 use Rattle.scons_base.specs.declared.ids.NodeId.{NodeId}
 use Rattle.rule_graph.specs.Graphs.{RuleGraph}
 use Rattle.rule_graph.specs.Rules.{are_below}
+use Rattle.build_means.proofs.Lists.{and_both}
 use Rattle.scons_top.specs.Asked.{words_asked}
 use Rattle.scons_top.specs.Requested.{AreNodes, AsksForNodes, AskForNodes, HasMore, nodes_asked}
 use Rattle.scons_top.specs.declared.requests.Request.{Request}
@@ -66,3 +67,13 @@ are_below_all g (node ∷ nodes) all =
     let P = λ (n : NodeId). n.0 < length g.nodes in
     both (nat_lt node.0 (length g.nodes)) (are_below (length g.nodes) nodes)
     (lt-ltb node.0 (length g.nodes) (All-head P node nodes all)) (are_below_all g nodes (All-tail P node nodes all))
+
+pub all_below : (g : RuleGraph) (nodes : List NodeId) → are_below (length g.nodes) nodes ≡ true → AreNodes g nodes
+all_below g [] all = All-nil (λ (n : NodeId). n.0 < length g.nodes)
+all_below g (node ∷ nodes) all =
+    let parts = and_both (nat_lt node.0 (length g.nodes)) (are_below (length g.nodes) nodes) all in
+    All-cons (λ (n : NodeId). n.0 < length g.nodes) node nodes (ltb-true node.0 (length g.nodes) parts.0) (all_below g nodes parts.1)
+
+-- the one at a place
+pub below_at : (g : RuleGraph) (nodes : List NodeId) (i : ℕ) (d : NodeId) → i < length nodes → are_below (length g.nodes) nodes ≡ true → (get_or nodes i d).0 < length g.nodes
+below_at g nodes i d lt all = All-get_or (λ (n : NodeId). n.0 < length g.nodes) nodes i d lt (all_below g nodes all)

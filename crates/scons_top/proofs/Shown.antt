@@ -118,7 +118,7 @@ abbrev with_skipped : Report → List (Path × Path) → Report
 with_skipped report pairs = record report { skipped = pairs }
 
 pub caused_skipping : (a b : Outside) (report : Report) (pairs : List (Path × Path)) → IsCaused a b report → IsCaused a b (with_skipped report pairs)
-caused_skipping a b report pairs h = record { later = h.later; each = h.each; told = h.told }
+caused_skipping a b report pairs h = record { later = h.later; each = h.each; counted = h.counted; told = h.told }
 
 pub ends_skipping : (at : Step) (report : Report) (pairs : List (Path × Path)) → ReportsAt at report → ReportsAt at (with_skipped report pairs)
 ends_skipping at report pairs h = record { ends = h.ends; faults = h.faults }

@@ -5,6 +5,7 @@ use Rattle.std.proofs.lemmas.Bool.{false≢true}
 use Rattle.std.proofs.lemmas.List.Elements.{All-nil, All-cons, All-push, All-map, All-weaker, All-contains, Contains-push, Contains-append_left}
 use Rattle.world_api.specs.Causes.{TreeFails}
 use Rattle.world_api.specs.Counts.{Counts}
+use Rattle.world_api.specs.Laws.{HasOnlyNow}
 use Rattle.world_api.specs.Looks.{Looks}
 use Rattle.world_api.specs.Meaning.{Meaning}
 use Rattle.world_api.specs.declared.refusal.Fault.{Fault}
@@ -14,8 +15,6 @@ use Rattle.rule_graph.specs.declared.build_fault.BuildFault.TheVariants as fault
 use Rattle.build_files.specs.Causes.{HasEndCause, HasFaultCause as HasLookFault}
 use Rattle.build_files.specs.declared.end.ListEnd.{ListEnd}
 use Rattle.build_files.specs.declared.end.ListEnd.TheVariants as list_end
-use Rattle.build_run.specs.Goings.{Stays}
-use Rattle.build_run.proofs.Goings.{stays_on}
 use Rattle.scons_report.specs.Causes.{HasFaultCause as HasListFault, HasEndCause as HasListEnd}
 use Rattle.sign_store.specs.declared.refusals.StoreRefusal.{StoreRefusal}
 use Rattle.sign_store.specs.declared.refusals.StoreRefusal.TheVariants as refusal
@@ -30,9 +29,11 @@ use Rattle.scons_top.specs.declared.report.Top.{Top}
 use Rattle.scons_top.specs.declared.report.Top.TheVariants as top
 use Rattle.scons_top.specs.declared.step.Step.{Step}
 use Rattle.scons_top.specs.declared.step.Step.TheVariants as step
+use Rattle.scons_top.specs.declared.stop.OwnFault.{OwnFault}
+use Rattle.scons_top.specs.declared.stop.OwnFault.TheVariants as own
 use Rattle.scons_top.specs.declared.stop.Stop.{Stop}
 use Rattle.scons_top.specs.declared.stop.Stop.TheVariants as stop
-use Rattle.scons_top.specs.Faults.{IsLateStop}
+use Rattle.scons_top.specs.Faults.{IsLateStop, top_of_own}
 use Rattle.scons_top.specs.Builds.{EndsBefore}
 use Rattle.scons_top.specs.Asked.{NamesNone, StopsFor}
 use Rattle.scons_top.specs.Foreign.{StopsByBytes}
@@ -42,7 +43,7 @@ use Rattle.scons_top.specs.Stops.{top_of, stop_of_words, stop_of_list, stop_of_h
 use Rattle.scons_top.specs.Steps.{ServesAt, RunsTo, ComesTo, LeavesAt, ComesAt, AllComeAt, AllFoundAt, StopsAt, ReportsAt, RunEndsAt, IsTreeEnd, IsReadingStep, IsListingStep, IsBuildingStep, IsFaultOr, IsStopOr, IsTold, StopsForWords, TellsUsage, IsRefused, RefusesWords}
 use Rattle.scons_top.specs.Watching.{Watches}
 use Rattle.scons_top.proofs.Building.{ends_looked}
-use Rattle.scons_top.proofs.Watching.{stays_of}
+use Rattle.scons_top.proofs.Remembered.{keeps_looked}
 
 -- a sink may refuse at every step
 pub out_at : (at : Step) → ComesAt at top.OutFault
@@ -260,7 +261,7 @@ pub has_before : (old : List Top) (f g : Top) (new : List Top) → new ≡ old +
 has_before old f g new same has = subst (λ (faults : List Top). Contains faults f) (sym same) (Contains-append_left old (g ∷ []) f has)
 
 -- of a stop
-pub stop_or_fault : (s : Stop) (f g : Top) (faults : List Top) → s ≡ stop.Fault f → g ≡ f → All (IsFaultOr g) faults → All (IsStopOr s) faults
+pub stop_or_fault : (s : Stop) (f : OwnFault) (g : Top) (faults : List Top) → s ≡ stop.Fault f → g ≡ top_of_own f → All (IsFaultOr g) faults → All (IsStopOr s) faults
 stop_or_fault s f g faults is same all =
     subst (λ (x : Stop). All (IsStopOr x) faults) (sym is) (subst (λ (x : Top). All (IsFaultOr x) faults) same all)
 
@@ -271,8 +272,9 @@ stop_or_build s f g faults is same all =
 pub stop_or_none : (s : Stop) (faults : List Top) → faults ≡ [] → All (IsStopOr s) faults
 stop_or_none s faults none = subst (λ (fs : List Top). All (IsStopOr s) fs) (sym none) (All-nil (IsStopOr s))
 
-pub told_fault : (s : Stop) (f : Top) (faults : List Top) → s ≡ stop.Fault f → Contains faults f → IsTold s faults
-told_fault s f faults is has = subst (λ (x : Stop). IsTold x faults) (sym is) has
+pub told_fault : (s : Stop) (f : OwnFault) (g : Top) (faults : List Top) → s ≡ stop.Fault f → g ≡ top_of_own f → Contains faults g → IsTold s faults
+told_fault s f g faults is same has =
+    subst (λ (x : Stop). IsTold x faults) (sym is) (subst (λ (x : Top). Contains faults x) same has)
 
 pub told_build : (s : Stop) (f : BuildFault) (g : Top) (faults : List Top) → s ≡ stop.Build f → g ≡ top_of f → Contains faults g → IsTold s faults
 told_build s f g faults is same has =
@@ -284,7 +286,7 @@ fault_comes at fault f h (inr out) = subst (ComesAt at) (sym out) (out_at at)
 
 -- the report of a run that one stop ended
 pub alone_at : (at : Step) (s : Stop) (faults : List Top) → All (IsStopOr s) faults → StopsAt at s → AllComeAt at faults
-alone_at at (stop.Fault fault) faults all h = All-weaker (IsFaultOr fault) (ComesAt at) (λ f is. fault_comes at fault f h is) faults all
+alone_at at (stop.Fault fault) faults all h = All-weaker (IsFaultOr (top_of_own fault)) (ComesAt at) (λ f is. fault_comes at (top_of_own fault) f h is) faults all
 alone_at at (stop.Build fault) faults all h = All-weaker (IsFaultOr (top_of fault)) (ComesAt at) (λ f is. fault_comes at (top_of fault) f h is) faults all
 alone_at at stop.Memory faults all h = All-weaker (IsStopOr stop.Memory) (ComesAt at) (λ f is. absurd is) faults all
 
@@ -309,22 +311,28 @@ usage_one step.Building place kind h = absurd h
 usage_build : (f : BuildFault) (place : ℕ) (kind : UsageKind) → top.Usage place kind ≡ top_of f → ⊥
 usage_build f place kind e = subst (ComesAt step.Building) (sym e) (building_fault f)
 
-usage_stop : (s : Stop) (place : ℕ) (kind : UsageKind) → IsStopOr s (top.Usage place kind) → s ≡ stop.Fault (top.Usage place kind)
-usage_stop (stop.Fault fault) place kind (inl same) = ap (λ (f : Top). stop.Fault f) (sym same)
+usage_own : (f : OwnFault) (place : ℕ) (kind : UsageKind) → top.Usage place kind ≡ top_of_own f → f ≡ own.Usage place kind
+usage_own (own.Usage at word) place kind same = cc
+usage_own (own.Reading file line why) place kind same = absurd (let no = same in cc)
+usage_own (own.UnknownTarget word) place kind same = absurd (let no = same in cc)
+usage_own (own.StoreForeign bank) place kind same = absurd (let no = same in cc)
+
+usage_stop : (s : Stop) (place : ℕ) (kind : UsageKind) → IsStopOr s (top.Usage place kind) → s ≡ stop.Fault (own.Usage place kind)
+usage_stop (stop.Fault fault) place kind (inl same) = ap (λ (f : OwnFault). stop.Fault f) (usage_own fault place kind same)
 usage_stop (stop.Fault fault) place kind (inr out) = absurd (let no = out in cc)
 usage_stop (stop.Build fault) place kind (inl same) = absurd (usage_build fault place kind same)
 usage_stop (stop.Build fault) place kind (inr out) = absurd (let no = out in cc)
 usage_stop stop.Memory place kind h = absurd h
 
 -- a fault of the words is that for which the run stopped
-pub usage_told : (s : Stop) (faults : List Top) (place : ℕ) (kind : UsageKind) → All (IsStopOr s) faults → Contains faults (top.Usage place kind) → s ≡ stop.Fault (top.Usage place kind)
+pub usage_told : (s : Stop) (faults : List Top) (place : ℕ) (kind : UsageKind) → All (IsStopOr s) faults → Contains faults (top.Usage place kind) → s ≡ stop.Fault (own.Usage place kind)
 usage_told s faults place kind all has = usage_stop s place kind (All-contains (IsStopOr s) faults (top.Usage place kind) all has)
 
 -- a run that isn't at its words has none
 pub usage_at : (at : Step) (faults : List Top) (place : ℕ) (kind : UsageKind) → AllComeAt at faults → Contains faults (top.Usage place kind) → at ≡ step.Words
 usage_at at faults place kind all has = usage_one at place kind (All-contains (ComesAt at) faults (top.Usage place kind) all has)
 
-no_usage : (at : Step) (s : Stop) (place : ℕ) (kind : UsageKind) → StopsAt at s → s ≡ stop.Fault (top.Usage place kind) → at ≡ step.Words
+no_usage : (at : Step) (s : Stop) (place : ℕ) (kind : UsageKind) → StopsAt at s → s ≡ stop.Fault (own.Usage place kind) → at ≡ step.Words
 no_usage at s place kind h is = usage_one at place kind (subst (StopsAt at) is h)
 
 -- steps behind the words tell no fault of the words
@@ -500,17 +508,17 @@ leaves_listing m step.Listing old new h looks = looks
 leaves_listing m step.Building old new h looks = tt
 
 -- a run that had looked before
-pub leaves_after : {W : Type 0} (m : Meaning W) (at : Step) (a b c : W) → Watches m a b → LeavesAt m at b c → LeavesAt m at a c
-leaves_after m step.Words a b c watches h = looks_joined m a b c watches.looks h
-leaves_after m step.Load a b c watches h = looks_joined m a b c watches.looks h
-leaves_after m step.Top a b c watches h = looks_joined m a b c watches.looks h
-leaves_after m step.Reading a b c watches h = looks_joined m a b c watches.looks h
-leaves_after m step.Help a b c watches h = looks_joined m a b c watches.looks h
-leaves_after m step.Requests a b c watches h = looks_joined m a b c watches.looks h
-leaves_after m step.Cleaning a b c watches h = stays_on m a b c (stays_of m a b watches) h
-leaves_after m step.Store a b c watches h = ends_looked m a b c watches.looks h
-leaves_after m step.Listing a b c watches h = looks_joined m a b c watches.looks h
-leaves_after m step.Building a b c watches h = tt
+pub leaves_after : {W : Type 0} (m : Meaning W) → HasOnlyNow m → (at : Step) (a b c : W) → Watches m a b → LeavesAt m at b c → LeavesAt m at a c
+leaves_after m only step.Words a b c watches h = looks_joined m a b c watches.looks h
+leaves_after m only step.Load a b c watches h = looks_joined m a b c watches.looks h
+leaves_after m only step.Top a b c watches h = looks_joined m a b c watches.looks h
+leaves_after m only step.Reading a b c watches h = looks_joined m a b c watches.looks h
+leaves_after m only step.Help a b c watches h = looks_joined m a b c watches.looks h
+leaves_after m only step.Requests a b c watches h = looks_joined m a b c watches.looks h
+leaves_after m only step.Cleaning a b c watches h = keeps_looked m only a b c watches h
+leaves_after m only step.Store a b c watches h = ends_looked m a b c watches.looks h
+leaves_after m only step.Listing a b c watches h = looks_joined m a b c watches.looks h
+leaves_after m only step.Building a b c watches h = tt
 
 -- by the report's own step
 pub leaves_as : {W : Type 0} (m : Meaning W) (at reported : Step) (old new : W) → reported ≡ at → LeavesAt m at old new → LeavesAt m reported old new

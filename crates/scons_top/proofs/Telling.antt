@@ -3,7 +3,7 @@ use Rattle.std.proofs.Common.{◌≡◌, ◌≢◌, ◌∙◌, ◌⊎◌, ◌≤
 use Rattle.std.specs.Prelude.{Result, Ok, Err, IfOk, OnOk, OnErr, IsErrAnd}
 use Rattle.std.proofs.lemmas.Bool.{false≢true}
 use Rattle.std.proofs.lemmas.List.Elements.{All-nil}
-use Rattle.scons_top.specs.Faults.{EarlyOnlyIf}
+use Rattle.scons_top.specs.Faults.{EarlyOnlyIf, top_of_own}
 use Rattle.scons_base.specs.Rising.{Rose}
 use Rattle.world_api.specs.Printed.{SinkMeaning}
 use Rattle.world_api.specs.Printing.{IsPrefixed, Prints, Cuts}
@@ -21,6 +21,7 @@ use Rattle.scons_top.specs.Told.AreLines.{no_line, one_more}
 use Rattle.scons_top.specs.declared.report.Report.{Report}
 use Rattle.scons_top.specs.declared.report.Top.{Top}
 use Rattle.scons_top.specs.declared.report.Top.TheVariants as top
+use Rattle.scons_top.specs.declared.stop.OwnFault.{OwnFault}
 use Rattle.scons_top.specs.declared.stop.Stop.{Stop}
 use Rattle.scons_top.proofs.Printing.{prefixed_all, prefixed_more}
 
@@ -52,9 +53,9 @@ line_of_build fault.OutFault = refl
 line_of_build (fault.TooLarge path size) = refl
 line_of_build (fault.TooMany what count) = refl
 
-pub top_lines : {T R : Type 0} (bytes : T → List ℕ) (f : Top) (text : Result T R) → IfOk text (λ t. IsTopText f (bytes t)) → IfOk text (λ t. IsLine f (bytes t))
-top_lines bytes f (Ok t) is = line_of_top f (bytes t) is
-top_lines bytes f (Err e) is = tt
+pub own_lines : {T R : Type 0} (bytes : T → List ℕ) (f : OwnFault) (told : Top) (text : Result T R) → told ≡ top_of_own f → IfOk text (λ t. IsTopText (top_of_own f) (bytes t)) → IfOk text (λ t. IsLine told (bytes t))
+own_lines bytes f told (Ok t) same is = subst (λ (x : Top). IsLine x (bytes t)) (sym same) (line_of_top (top_of_own f) (bytes t) is)
+own_lines bytes f told (Err e) same is = tt
 
 pub build_lines : {T R : Type 0} (bytes : T → List ℕ) (f : BuildFault) (told : Top) (text : Result T R) → told ≡ top_of f → IfOk text (λ t. bytes t ≡ fault_text f) → IfOk text (λ t. IsLine told (bytes t))
 build_lines bytes f told (Ok t) same is = subst (λ (x : Top). IsLine x (bytes t)) (sym same) (subst (IsLine (top_of f)) (sym is) (line_of_build f))

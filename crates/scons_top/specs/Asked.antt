@@ -13,6 +13,7 @@ use Rattle.scons_top.specs.declared.report.Top.{Top}
 use Rattle.scons_top.specs.declared.report.Top.TheVariants as top
 use Rattle.scons_top.specs.declared.requests.Request.{Request}
 use Rattle.scons_top.specs.declared.step.Step.TheVariants as step
+use Rattle.scons_top.specs.declared.stop.OwnFault.TheVariants as own
 use Rattle.scons_top.specs.declared.stop.Stop.{Stop}
 use Rattle.scons_top.specs.declared.stop.Stop.TheVariants as stop
 use Rattle.scons_top.specs.Steps.{StopsAt}
@@ -58,7 +59,7 @@ IsUnknown g word =
 
 -- a stop before all words stand for nodes, where a word that isn't known is one of which this holds
 abbrev pub StopsFor : (List ℕ → Type 0) → Stop → Type 0
-StopsFor P (stop.Fault (top.UnknownTarget word)) = P word
+StopsFor P (stop.Fault (own.UnknownTarget word)) = P word
 StopsFor P other = StopsAt step.Requests other
 
 -- a word read as a path, where it is one
@@ -98,7 +99,7 @@ pub record IsToldUnknown (said : Words) (word : List ℕ) : Type 0 where
 
 -- a run with these words stops for such a word, or for something else
 abbrev pub StopsUnknown : Words → Stop → Type 0
-StopsUnknown said s = (word : List ℕ) → s ≡ stop.Fault (top.UnknownTarget word) → IsToldUnknown said word
+StopsUnknown said s = (word : List ℕ) → s ≡ stop.Fault (own.UnknownTarget word) → IsToldUnknown said word
 
 -- each word that these faults tell to be unknown is such a one
 abbrev pub TellUnknown : Words → List Top → Type 0

@@ -15,8 +15,12 @@ use Rattle.build_run.specs.Causes.{HasAny}
 use Rattle.build_run.specs.Outsets.{HasRun, HasSucceeded}
 use Rattle.build_run.specs.Reasons.{IsLast}
 use Rattle.build_run.specs.Skips.{AreSkips}
+use Rattle.build_run.specs.Unrecorded.{CountsJobs}
+use Rattle.scons_top.specs.Remembered.{HasRememberedSince, LeavesRecords}
 use Rattle.scons_top.specs.Stops.{top_of}
 use Rattle.scons_top.specs.declared.report.Report.{Report}
+use Rattle.scons_top.specs.declared.step.Step.{Step}
+use Rattle.scons_top.specs.declared.step.Step.TheVariants as step
 use Rattle.scons_top.specs.declared.stop.Stop.{Stop}
 
 -- The words ask for a build: not for a load, help texts, a removal or a list.
@@ -49,7 +53,8 @@ abbrev pub EndsBefore : {W : Type 0} → Meaning W → W → W → Type 0
 EndsBefore m old new = Looks m old new ⊎ LooksAndBegins m old new
 
 -- A run built nodes of a graph, from the world as the run found it and the records that its banks held then; where it answers
--- status 0, the build succeeded; and what its report tells to be skipped is what the build held back.
+-- status 0, the build succeeded; what its report tells to be skipped is what the build held back; its jobs that didn't end well are counted;
+-- and wherever it is stopped no record is forgotten.
 pub record HasBuilt {W : Type 0} (m : Meaning W) (said : Words) (old new : W) (report : Report) : Type 0 where
   pub graph : RuleGraph
   pub requested : List NodeId
@@ -60,6 +65,11 @@ pub record HasBuilt {W : Type 0} (m : Meaning W) (said : Words) (old new : W) (r
   pub is_ended : Bool
   pub runs : HasRun m (wanted_by said graph requested) (image_in (m.seen old)) old new kept is_ended
   pub succeeds : report.status ≡ 0 → HasSucceeded m (wanted_by said graph requested) (image_in (m.seen old)) old new kept
+  -- whether memory was wanting, which the status tells
+  pub memory : Bool
+  pub wanting : report.status ≢ 3 → memory ≡ false
+  pub jobs : CountsJobs (m.counts old) (m.counts new) memory kept runs.runs.log.entries
+  pub remembers : HasRememberedSince m (wanted_by said graph requested) old new
   -- the faults of the build, each of which the report has unless memory was wanting
   pub found : List BuildFault
   pub reported : report.status ≢ 3 → All (λ f. Contains report.faults (top_of f)) found
@@ -80,3 +90,9 @@ BuildsOrStops m said old new (Err stop) = EndsBefore m old new
 
 abbrev pub RunBuilds : {W : Type 0} → Meaning W → Words → W → W → Result Report Stop → Type 0
 RunBuilds m said old new result = AskForBuild said → m.tells new → m.sure new → BuildsOrStops m said old new result
+
+-- Nothing is forgotten. A run that ends before it builds keeps the records at every moment. Where it comes to build, in a world that tells and
+-- is sure, it does, or it built, and `remembers` says of what it built which records it may have changed.
+abbrev pub RemembersAt : {W : Type 0} → Meaning W → Words → Step → W → W → Report → Type 0
+RemembersAt m said step.Building old new report = m.tells new → m.sure new → HasBuilt m said old new report ⊎ LeavesRecords m old new
+RemembersAt m said other old new report = LeavesRecords m old new

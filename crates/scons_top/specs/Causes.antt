@@ -4,6 +4,7 @@ use Rattle.scons_base.specs.Rising.{Rose}
 use Rattle.world_api.specs.Meaning.{Meaning}
 use Rattle.world_api.specs.Printed.{SinkMeaning}
 use Rattle.build_run.specs.Causes.{Outside, outside, IsLater}
+use Rattle.scons_top.specs.Counted.{AreFew}
 use Rattle.scons_top.specs.declared.report.Report.{Report}
 use Rattle.scons_top.specs.declared.report.Top.{Top}
 use Rattle.scons_top.specs.declared.report.Top.TheVariants as top
@@ -50,10 +51,12 @@ pub record AreTold (old new : Outside) (faults : List Top) : Type 0 where
   pub out : new.out ≢ old.out → Contains faults top.OutFault
   pub err : new.err ≢ old.err → Contains faults top.OutFault
 
--- no count fell, each fault has its cause, and, unless memory was wanting, each count that changed its fault
+-- no count fell, each fault has its cause, there are no more of a kind than its count rose by, and, unless memory was wanting, each count
+-- that changed has its fault
 pub record IsCaused (old new : Outside) (report : Report) : Type 0 where
   pub later : IsLater old new
   pub each : All (HasCause old new) report.faults
+  pub counted : AreFew old new report.faults
   pub told : report.status ≢ 3 → AreTold old new report.faults
 
 -- the same of a run over a world and two sinks

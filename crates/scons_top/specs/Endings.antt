@@ -1,5 +1,6 @@
 -- How the faults of a run are put together as it ends.
-use Rattle.std.specs.Prelude.{◌≡◌, ◌++◌, ◌∷◌, [], ℕ, Bool, true, false, List, All, map, Result, Ok, Err}
+use Rattle.std.specs.Prelude.{◌≡◌, ◌≤◌, ◌+◌, ◌++◌, ◌∷◌, [], ℕ, Bool, true, false, List, All, map, Result, Ok, Err}
+use Rattle.std.specs.List.{count_by}
 use Rattle.world_api.specs.Counts.{Counts}
 use Rattle.world_api.specs.Printed.{SinkMeaning}
 use Rattle.world_api.specs.declared.refusal.Fault.{Fault}
@@ -12,13 +13,15 @@ use Rattle.scons_top.specs.declared.report.Top.TheVariants as top
 use Rattle.scons_top.specs.declared.stop.Stop.{Stop}
 use Rattle.scons_top.specs.declared.stop.Stop.TheVariants as stop
 use Rattle.scons_top.specs.Causes.{HasCause, AreTold, IsCaused}
+use Rattle.scons_top.specs.Counted.{AreFew, built_faults}
 use Rattle.scons_top.specs.Stops.{top_of, HasWorldCause, HasStopFault, HasStop, ReportStep, SinkStep}
 
--- the faults found so far, and whether memory was wanting: no count fell, each fault has its cause, and, unless it was, each
--- count that changed is told
+-- the faults found so far, and whether memory was wanting: no count fell, each fault has its cause, there are no more of a kind than its
+-- count rose by, and, unless memory was wanting, each count that changed is told
 pub record Found (old new : Outside) (faults : List Top) (memory : Bool) : Type 0 where
   pub later : IsLater old new
   pub each : All (HasCause old new) faults
+  pub counted : AreFew old new faults
   pub told : memory ≡ false → AreTold old new faults
 
 -- over a print on standard error
@@ -39,6 +42,10 @@ ErrEnds e s err new_err report = (start : Outside) (counts : Counts) (out : ℕ)
 abbrev pub ListEnds : {O E : Type 0} → SinkMeaning O → SinkMeaning E → BuildFault → O → E → O → E → Result Report Stop → Type 0
 ListEnds o e fault out err new_out new_err result = (old new : Counts) → HasWorldCause old new (top_of fault)
     → ReportStep (outside old (o.faults out) (e.faults err)) (outside new (o.faults new_out) (e.faults new_err)) result
+
+-- of no kind more of these faults were put behind others than there are
+abbrev pub AddsFew : List BuildFault → List Top → List Top → Type 0
+AddsFew found old new = (test : BuildFault → Bool) → count_by test (built_faults new) ≤ count_by test (built_faults old) + count_by test found
 
 -- the fault that a last line wasn't written is added, unless memory is wanting
 abbrev pub AddsStopped : Stop → List Top → List Top → Bool → Type 0

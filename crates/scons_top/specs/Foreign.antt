@@ -4,6 +4,7 @@ use Rattle.world_api.specs.Banks.{Banks}
 use Rattle.world_api.specs.Meaning.{Meaning}
 use Rattle.sign_store.specs.Readings.{AreReadable, IsRefusal}
 use Rattle.sign_store.specs.declared.refusals.StoreRefusal.TheVariants as refusal
+use Rattle.scons_top.specs.Faults.{top_of_own}
 use Rattle.scons_top.specs.declared.report.Report.{Report}
 use Rattle.scons_top.specs.declared.report.Top.{Top}
 use Rattle.scons_top.specs.declared.report.Top.TheVariants as top
@@ -18,7 +19,7 @@ IsOfBytes banks (top.StoreForeign bank) = IsRefusal banks (refusal.Foreign bank)
 IsOfBytes banks other = Unit {0}
 
 abbrev pub StopsByBytes : Banks → Stop → Type 0
-StopsByBytes banks (stop.Fault fault) = IsOfBytes banks fault
+StopsByBytes banks (stop.Fault fault) = IsOfBytes banks (top_of_own fault)
 StopsByBytes banks (stop.Build fault) = Unit {0}
 StopsByBytes banks stop.Memory = Unit {0}
 

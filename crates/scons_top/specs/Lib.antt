@@ -1,5 +1,7 @@
 pub mod Asked
+pub mod Remembered
 pub mod Builds
+pub mod Counted
 pub mod Causes
 pub mod Cleaned
 pub mod Endings

@@ -6,7 +6,6 @@ use Rattle.rule_graph.specs.declared.build_fault.BuildFault.{BuildFault}
 use Rattle.rule_graph.specs.declared.build_fault.What.TheVariants as what
 use Rattle.build_files.specs.declared.end.ListEnd.{ListEnd}
 use Rattle.build_files.specs.declared.end.ListEnd.TheVariants as list_end
-use Rattle.build_run.specs.Goings.{Stays}
 use Rattle.rule_graph.specs.declared.build_fault.BuildFault.TheVariants as fault
 use Rattle.scons_words.specs.declared.words.Words.{Words}
 use Rattle.scons_words.specs.declared.fault.UsageKind.{UsageKind}
@@ -17,9 +16,12 @@ use Rattle.scons_top.specs.declared.report.Top.{Top}
 use Rattle.scons_top.specs.declared.report.Top.TheVariants as top
 use Rattle.scons_top.specs.declared.step.Step.{Step}
 use Rattle.scons_top.specs.declared.step.Step.TheVariants as step
+use Rattle.scons_top.specs.declared.stop.OwnFault.TheVariants as own
 use Rattle.scons_top.specs.declared.stop.Stop.{Stop}
 use Rattle.scons_top.specs.declared.stop.Stop.TheVariants as stop
 use Rattle.scons_top.specs.Builds.{EndsBefore}
+use Rattle.scons_top.specs.Remembered.{KeepsBanks}
+use Rattle.scons_top.specs.Faults.{top_of_own}
 use Rattle.scons_top.specs.Stops.{top_of, stop_of_words}
 
 -- which words come to which step
@@ -59,7 +61,7 @@ ComesTo said other = (said.load ≡ None) × RunsTo said other
 -- what a run leaves
 
 -- By the step at which a run ended: before it cleaned or built it only looked, or looked and began the store; cleaning changes no
--- bank. What a build does is told of builds.
+-- bank, at no moment. What a build does is told of builds.
 abbrev pub LeavesAt : {W : Type 0} → Meaning W → Step → W → W → Type 0
 LeavesAt m step.Words old new = Looks m old new
 LeavesAt m step.Load old new = Looks m old new
@@ -67,7 +69,7 @@ LeavesAt m step.Top old new = Looks m old new
 LeavesAt m step.Reading old new = Looks m old new
 LeavesAt m step.Help old new = Looks m old new
 LeavesAt m step.Requests old new = Looks m old new
-LeavesAt m step.Cleaning old new = Stays m old new
+LeavesAt m step.Cleaning old new = KeepsBanks m old new
 LeavesAt m step.Store old new = EndsBefore m old new
 LeavesAt m step.Listing old new = Looks m old new
 LeavesAt m step.Building old new = Unit {0}
@@ -155,7 +157,7 @@ AllFoundAt at faults = All (λ f. ComesAt at (top_of f)) faults
 
 -- a stop for which a run may end at this step
 abbrev pub StopsAt : Step → Stop → Type 0
-StopsAt at (stop.Fault fault) = ComesAt at fault
+StopsAt at (stop.Fault fault) = ComesAt at (top_of_own fault)
 StopsAt at (stop.Build fault) = ComesAt at (top_of fault)
 StopsAt at stop.Memory = Unit {0}
 
@@ -200,13 +202,13 @@ abbrev pub IsFaultOr : Top → Top → Type 0
 IsFaultOr fault f = (f ≡ fault) ⊎ (f ≡ top.OutFault)
 
 abbrev pub IsStopOr : Stop → Top → Type 0
-IsStopOr (stop.Fault fault) f = IsFaultOr fault f
+IsStopOr (stop.Fault fault) f = IsFaultOr (top_of_own fault) f
 IsStopOr (stop.Build fault) f = IsFaultOr (top_of fault) f
 IsStopOr stop.Memory f = ⊥
 
 -- the fault for which a run stopped is among these
 abbrev pub IsTold : Stop → List Top → Type 0
-IsTold (stop.Fault fault) faults = Contains faults fault
+IsTold (stop.Fault fault) faults = Contains faults (top_of_own fault)
 IsTold (stop.Build fault) faults = Contains faults (top_of fault)
 IsTold stop.Memory faults = ⊥
 
@@ -217,7 +219,7 @@ StopsForWords why (Err s) = (s ≡ stop_of_words why) ⊎ (s ≡ stop.Memory)
 
 -- a fault of the words is told only where they are refused so
 abbrev pub TellsUsage : Result Words WordsFault → Stop → Type 0
-TellsUsage reading s = (place : ℕ) (kind : UsageKind) → s ≡ stop.Fault (top.Usage place kind) → reading ≡ Err (words_fault.At place kind)
+TellsUsage reading s = (place : ℕ) (kind : UsageKind) → s ≡ stop.Fault (own.Usage place kind) → reading ≡ Err (words_fault.At place kind)
 
 -- a run whose words are refused so ends there, and nothing else is done
 pub record IsRefused {W O : Type 0} (why : WordsFault) (at : Step) (old new : W) (out new_out : O) (result : Result Report Stop) : Type 0 where

@@ -20,9 +20,11 @@ use Rattle.build_run.specs.Causes.{Outside, outside, IsLater}
 use Rattle.scons_top.specs.declared.report.Report.{Report}
 use Rattle.scons_top.specs.declared.report.Top.{Top}
 use Rattle.scons_top.specs.declared.report.Top.TheVariants as top
+use Rattle.scons_top.specs.declared.stop.OwnFault.TheVariants as own
 use Rattle.scons_top.specs.declared.stop.Stop.{Stop}
 use Rattle.scons_top.specs.declared.stop.Stop.TheVariants as stop
 use Rattle.scons_top.specs.Causes.{IsCaused}
+use Rattle.scons_top.specs.Faults.{top_of_own}
 
 -- the fault of a run that a fault of a build is
 abbrev pub top_of : BuildFault → Top
@@ -38,7 +40,7 @@ top_of (fault.TooMany what count) = top.TooMany what count
 
 -- the stops that the ends of the layers below are
 abbrev pub stop_of_words : WordsFault → Stop
-stop_of_words (words_fault.At place kind) = stop.Fault (top.Usage place kind)
+stop_of_words (words_fault.At place kind) = stop.Fault (own.Usage place kind)
 stop_of_words words_fault.Memory = stop.Memory
 
 abbrev pub stop_of_list : ListEnd → Stop
@@ -46,7 +48,7 @@ stop_of_list (list_end.Fault fault) = stop.Build fault
 stop_of_list list_end.Memory = stop.Memory
 
 abbrev pub stop_of_host : HostEnd → Stop
-stop_of_host (host_end.Reading file line kind) = stop.Fault (top.Reading file line kind)
+stop_of_host (host_end.Reading file line kind) = stop.Fault (own.Reading file line kind)
 stop_of_host (host_end.Tree path) = stop.Build (fault.TreeFault path)
 stop_of_host host_end.Out = stop.Build fault.OutFault
 stop_of_host (host_end.TooLarge path size) = stop.Build (fault.TooLarge path size)
@@ -55,7 +57,7 @@ stop_of_host host_end.Memory = stop.Memory
 
 abbrev pub stop_of_store : StoreRefusal → Stop
 stop_of_store refusal.Fault = stop.Build fault.StoreFault
-stop_of_store (refusal.Foreign bank) = stop.Fault (top.StoreForeign bank)
+stop_of_store (refusal.Foreign bank) = stop.Fault (own.StoreForeign bank)
 stop_of_store (refusal.Large size) = stop.Build (fault.TooMany what.StoreBytes size)
 stop_of_store refusal.Memory = stop.Memory
 
@@ -77,7 +79,7 @@ HasWorldCause old new (top.TooMany what count) = new ≡ old
 
 -- for want of memory a fault may remain untold
 abbrev pub HasWorldStop : Counts → Counts → Stop → Type 0
-HasWorldStop old new (stop.Fault fault) = HasWorldCause old new fault
+HasWorldStop old new (stop.Fault fault) = HasWorldCause old new (top_of_own fault)
 HasWorldStop old new (stop.Build fault) = HasWorldCause old new (top_of fault)
 HasWorldStop old new stop.Memory = Later old new
 
@@ -127,7 +129,7 @@ HasStopFault old new top.OutFault = OutFails old new
 HasStopFault old new other = OnWorld (λ a b. HasWorldCause a b other) old new
 
 abbrev pub HasStop : Outside → Outside → Stop → Type 0
-HasStop old new (stop.Fault fault) = HasStopFault old new fault
+HasStop old new (stop.Fault fault) = HasStopFault old new (top_of_own fault)
 HasStop old new (stop.Build fault) = HasStopFault old new (top_of fault)
 HasStop old new stop.Memory = IsLater old new
 

@@ -1,9 +1,9 @@
 //! The targets below directories.
-ghost use Rattle.std.specs.Prelude.{◌≤◌, length, IfOk};
+ghost use Rattle.std.specs.Prelude.{◌≡◌, ◌<◌, ◌≤◌, length, true, IfOk};
 ghost use Rattle.rule_graph.specs.Graphs.{RuleGraph};
+ghost use Rattle.rule_graph.specs.Rules.{are_below};
 ghost use Rattle.scons_top.specs.Requested.{AddsNodes, GivesNodes, HaveNodes, KnowsNodes};
 
-use build_files::{path_of, rule_at};
 use indexmap::IndexSet;
 use rule_graph::Graph;
 use scons_base::{Memory, NodeId, PathText, RuleId};
@@ -29,6 +29,7 @@ impl Below {
         graph: &Graph,
         members: &[NodeId],
     ) -> Result<Vec<NodeId>, Memory>
+        requires { are_below (length graph.now.nodes) members.now ≡ true }
         ensures knows { KnowsNodes graph.now self.old → KnowsNodes graph.now self.new }
         ensures nodes { KnowsNodes graph.now self.old → GivesNodes graph.now result }
     {
@@ -51,6 +52,7 @@ impl Below {
         member: NodeId,
         nodes: &mut Vec<NodeId>,
     ) -> Result<(), Memory>
+        requires { member.0 < length graph.now.nodes }
         ensures knows { KnowsNodes graph.now self.old → KnowsNodes graph.now self.new }
         ensures nodes { KnowsNodes graph.now self.old → AddsNodes graph.now nodes.old nodes.new }
     {
@@ -58,7 +60,7 @@ impl Below {
             nodes.push(member)?;
             return Ok(());
         }
-        let below = self.targets_below(alloc, graph, path_of(graph, member)?)?;
+        let below = self.targets_below(alloc, graph, graph.path(member))?;
         if below.is_empty() {
             nodes.push(member)?;
         }
@@ -103,10 +105,11 @@ fn add_targets(
     rule: RuleId,
     targets: &mut Vec<(PathText, NodeId)>,
 ) -> Result<(), Memory>
+    requires { rule.0 < length graph.now.rules }
     ensures { HaveNodes graph.now targets.old.items → HaveNodes graph.now targets.new.items }
 {
-    for target in rule_at(graph, rule)?.targets.as_slice() {
-        targets.push((path_of(graph, *target)?.copy()?, *target))?;
+    for target in graph.rule(rule).targets.as_slice() {
+        targets.push((graph.path(*target).copy()?, *target))?;
     }
     Ok(())
 }

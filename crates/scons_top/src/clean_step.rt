@@ -1,8 +1,9 @@
 //! Cleaning: the targets of what was requested are removed.
-ghost use Rattle.std.specs.Prelude.{◌≡◌, ◌∷◌, [], None, true, IfOk, IfErr, OnOk, IsTrue, is_some, if◌then◌else◌};
+ghost use Rattle.std.specs.Prelude.{◌≡◌, ◌<◌, ◌∷◌, [], None, true, All, IfOk, IfErr, OnOk, IsTrue, is_some, length, if◌then◌else◌};
 ghost use Rattle.build_files.specs.Causes.{HasLookCause};
 ghost use Rattle.build_means.specs.Rules.{paths_of};
 ghost use Rattle.build_run.specs.Goings.{Stays};
+ghost use Rattle.rule_graph.specs.Rules.{are_below};
 ghost use Rattle.scons_report.specs.Cleaning.{rules_numbered};
 ghost use Rattle.scons_top.specs.Cleaned.{AreRemoved, CleansAsked, Cleared, is_file_kind, targets_of};
 ghost use Rattle.report_texts.specs.Texts.{removed_text};
@@ -13,6 +14,7 @@ ghost use Rattle.scons_top.specs.Requested.{AskForNodes, nodes_asked};
 ghost use Rattle.scons_top.specs.Steps.{IsTreeEnd, RunEndsAt, StopsAt};
 ghost use Rattle.scons_top.specs.Stops.{OutSteps, OutReports, SinkStep};
 ghost use Rattle.scons_top.specs.Faults.{IsLateStop};
+ghost use Rattle.scons_top.specs.Remembered.{LeavesBanks};
 ghost use Rattle.scons_top.specs.Stopping.{RunsSafely};
 ghost use Rattle.world_api.specs.Statuses.{HasStatus};
 ghost use Rattle.scons_top.specs.Watching.{Watches};
@@ -24,7 +26,6 @@ use crate::report::Report;
 use crate::requests::Request;
 use crate::step::Step;
 use crate::stop::Stop;
-use build_files::{path_of, rule_at};
 use rule_graph::Graph;
 use scons_base::{NodeId, PathText, RuleId};
 use scons_report::{ListEnd, clean_list, cleaned_text, cleaning_text, removed_text};
@@ -43,10 +44,12 @@ pub(crate) fn clean_requests<W: World, O: Sink>(
     out: &mut O,
 ) -> Result<Report, Stop>
     requires idle { W.meaning.tells world.old → (W.meaning.around world.old).running ≡ [] }
+    requires nodes { AskForNodes graph.now requests.now }
     ensures ends { RunEndsAt Step.Cleaning result }
     ensures cleans { AskForNodes graph.now requests.now → CleansAsked W.meaning words.now graph.now (nodes_asked requests.now) world.old world.new result }
     ensures stays { Stays W.meaning world.old world.new }
     ensures safe { RunsSafely W.meaning world.old world.new }
+    ensures moments { LeavesBanks W.meaning world.old world.new }
     ensures reports { OutReports W.meaning O.meaning world.old out.old world.new out.new result }
     ensures prints { ServesPrinting W.meaning O.meaning words.now Step.Cleaning graph.now requests.now world.old out.old world.new out.new result }
     ensures dry { IsTrue words.now.dry → Watches W.meaning world.old world.new }
@@ -72,11 +75,13 @@ fn clean_rules<W: World, O: Sink>(
     out: &mut O,
 ) -> Result<(), Stop>
     requires idle { W.meaning.tells world.old → (W.meaning.around world.old).running ≡ [] }
+    requires known { All (λ rule. rule.0 < length graph.now.rules) rules.now }
     ensures cleared { Cleared W.meaning (targets_of (rules_numbered graph.now rules.now)) world.old world.new }
     ensures gone { OnOk result (AreRemoved W.meaning words.now (targets_of (rules_numbered graph.now rules.now)) world.new) }
     ensures stops { IfErr result (StopsAt Step.Cleaning) }
     ensures stays { Stays W.meaning world.old world.new }
     ensures safe { RunsSafely W.meaning world.old world.new }
+    ensures moments { LeavesBanks W.meaning world.old world.new }
     ensures steps { OutSteps W.meaning O.meaning world.old out.old world.new out.new result }
     ensures dry { IsTrue words.now.dry → Watches W.meaning world.old world.new }
     ensures late { IfErr result IsLateStop }
@@ -84,7 +89,7 @@ fn clean_rules<W: World, O: Sink>(
     ensures prints { CleansPrinting W.meaning O.meaning words.now graph.now rules.now world.old out.old world.new out.new result }
 {
     for rule in rules {
-        let targets = rule_at(graph, *rule)?.targets.as_slice();
+        let targets = graph.rule(*rule).targets.as_slice();
         clean_all(alloc, graph, words, targets, world, out)?;
     }
     Ok(())
@@ -100,11 +105,13 @@ fn clean_all<W: World, O: Sink>(
     out: &mut O,
 ) -> Result<(), Stop>
     requires idle { W.meaning.tells world.old → (W.meaning.around world.old).running ≡ [] }
+    requires nodes { are_below (length graph.now.nodes) targets.now ≡ true }
     ensures cleared { Cleared W.meaning (paths_of graph.now targets.now) world.old world.new }
     ensures gone { OnOk result (AreRemoved W.meaning words.now (paths_of graph.now targets.now) world.new) }
     ensures stops { IfErr result (StopsAt Step.Cleaning) }
     ensures stays { Stays W.meaning world.old world.new }
     ensures safe { RunsSafely W.meaning world.old world.new }
+    ensures moments { LeavesBanks W.meaning world.old world.new }
     ensures steps { OutSteps W.meaning O.meaning world.old out.old world.new out.new result }
     ensures dry { IsTrue words.now.dry → Watches W.meaning world.old world.new }
     ensures late { IfErr result IsLateStop }
@@ -112,7 +119,7 @@ fn clean_all<W: World, O: Sink>(
     ensures prints { RemovesPrinting W.meaning O.meaning words.now (paths_of graph.now targets.now) world.old out.old world.new out.new result }
 {
     for target in targets {
-        clean(alloc, words, path_of(graph, *target)?, world, out)?;
+        clean(alloc, words, graph.path(*target), world, out)?;
     }
     Ok(())
 }
@@ -131,6 +138,7 @@ fn clean<W: World, O: Sink>(
     ensures stops { IfErr result (StopsAt Step.Cleaning) }
     ensures stays { Stays W.meaning world.old world.new }
     ensures safe { RunsSafely W.meaning world.old world.new }
+    ensures moments { LeavesBanks W.meaning world.old world.new }
     ensures steps { OutSteps W.meaning O.meaning world.old out.old world.new out.new result }
     ensures dry { IsTrue words.now.dry → Watches W.meaning world.old world.new }
     ensures late { IfErr result IsLateStop }
@@ -166,6 +174,7 @@ fn is_removed<W: World>(words: &Words, world: &mut W, path: &PathText) -> Result
     ensures tree { IfErr result IsTreeEnd }
     ensures stays { Stays W.meaning world.old world.new }
     ensures safe { RunsSafely W.meaning world.old world.new }
+    ensures moments { LeavesBanks W.meaning world.old world.new }
     ensures cause { HasLookCause (W.meaning.counts world.old) (W.meaning.counts world.new) result }
     ensures dry { IsTrue words.now.dry → Watches W.meaning world.old world.new }
     ensures there { W.meaning.tells world.new → IfOk result (λ is. is ≡ is_some ((W.meaning.around world.old).tree path.now)) }
@@ -185,6 +194,7 @@ fn take<W: World>(words: &Words, world: &mut W, path: &PathText) -> Result<bool,
     ensures tree { IfErr result IsTreeEnd }
     ensures stays { Stays W.meaning world.old world.new }
     ensures safe { RunsSafely W.meaning world.old world.new }
+    ensures moments { LeavesBanks W.meaning world.old world.new }
     ensures cause { HasLookCause (W.meaning.counts world.old) (W.meaning.counts world.new) result }
     ensures dry { IsTrue words.now.dry → Watches W.meaning world.old world.new }
     ensures taken { IfOk result (λ taken. taken ≡ true) }
@@ -227,6 +237,7 @@ fn remove<W: World>(world: &mut W, path: &PathText) -> Result<(), ListEnd>
     ensures tree { IfErr result IsTreeEnd }
     ensures stays { Stays W.meaning world.old world.new }
     ensures safe { RunsSafely W.meaning world.old world.new }
+    ensures moments { LeavesBanks W.meaning world.old world.new }
     ensures cause { HasLookCause (W.meaning.counts world.old) (W.meaning.counts world.new) result }
 {
     match world.remove(path) {

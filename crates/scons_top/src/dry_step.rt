@@ -118,14 +118,14 @@ fn tell_rules<O: Sink>(
     Ok(good(alloc, Step::Listing))
 }
 
-/// The lines of a rule. A list names rules of its graph alone; another would be answered as want of memory is.
+/// The lines of a rule. A list names rules of its graph alone; of another there are none.
 fn lines_of(alloc: Global, graph: &Graph, rule: RuleId) -> Result<String, Memory>
     ensures { IfOk result (λ text. string_bytes text ≡ line_by graph.now (slice_get graph.now.rules rule.0)) }
 {
     if rule.0 < graph.rules() {
         rule_text(alloc, graph, rule)
     } else {
-        Err(Memory)
+        Ok(String::new(alloc))
     }
 }
 

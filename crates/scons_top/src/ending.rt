@@ -5,7 +5,7 @@ ghost use Rattle.report_texts.specs.Texts.{done_text};
 ghost use Rattle.rule_graph.specs.Rules.{rule_of};
 ghost use Rattle.scons_top.specs.Faults.{IsEarly, IsEarlyStop, IsLate, IsLateStop, EarlyOnlyIf};
 ghost use Rattle.scons_base.specs.declared.ids.RuleId.{RuleId};
-ghost use Rattle.scons_top.specs.Endings.{ErrFinds, ErrEnds, ErrReports, AddsStopped, AddsUnwritten, Closes, ClosesWith};
+ghost use Rattle.scons_top.specs.Endings.{ErrFinds, ErrEnds, ErrReports, AddsFew, AddsStopped, AddsUnwritten, Closes, ClosesWith};
 ghost use Rattle.scons_top.specs.Printed.{RequestPrints};
 ghost use Rattle.scons_top.specs.Sinks.{PrintsUpTo};
 ghost use Rattle.scons_top.specs.RunLines.{AreMarks, closing_text, goes_on, has_started, is_made_by, progress, requests_text};
@@ -20,7 +20,7 @@ use crate::report::{Report, Top};
 use crate::requests::Request;
 use crate::step::Step;
 use crate::stop::Stop;
-use crate::texts::top_text;
+use crate::texts::own_text;
 use rule_graph::{BuildFault, Graph};
 use scons_base::{Listing, Memory, NodeId, PathText, RuleId};
 use scons_report::{
@@ -96,8 +96,8 @@ pub(crate) fn ended<E: Sink>(alloc: Global, stop: Stop, step: Step, err: &mut E)
 {
     match stop {
         Stop::Fault(fault) => {
-            let text = top_text(alloc, &fault);
-            kept(alloc, err, fault, text, step)
+            let text = own_text(alloc, &fault);
+            kept(alloc, err, Top::from(fault), text, step)
         }
         Stop::Build(fault) => {
             let text = fault_text(alloc, &fault);
@@ -335,6 +335,7 @@ fn add_all(faults: &mut Listing<Top>, found: Listing<BuildFault>) -> bool
     ensures late { EarlyOnlyIf ⊥ faults.old → EarlyOnlyIf ⊥ faults.new }
     ensures added { result ≡ false → faults.new ≡ faults.old ++ map top_of found }
     ensures each { All (Contains (faults.old ++ map top_of found)) faults.new }
+    ensures few { AddsFew found faults.old faults.new }
 {
     let mut lacks = false;
     for fault in found.into_vec() {

@@ -1,8 +1,9 @@
 //! The members of an alias: each is a target, a file or a directory.
-ghost use Rattle.std.specs.Prelude.{◌≡◌, IfErr};
+ghost use Rattle.std.specs.Prelude.{◌≡◌, ◌<◌, length, IfErr};
 ghost use Rattle.build_files.specs.Causes.{HasLookCause};
 ghost use Rattle.scons_top.specs.Asked.{IsNoPath, NamesNone, StopsFor};
 ghost use Rattle.scons_top.specs.Foreign.{StepByBytes, StopsByBytes};
+ghost use Rattle.scons_top.specs.Requested.{AreNodes};
 ghost use Rattle.scons_top.specs.Stops.{WorldStep, IsInside};
 ghost use Rattle.scons_top.specs.Watching.{Watches};
 ghost use Rattle.world_api.specs.Banks.{Banks};
@@ -10,7 +11,7 @@ ghost use Rattle.world_api.specs.Banks.{Banks};
 use crate::lookups::{Lookups, is_left_over};
 use crate::requests::{kind_of, path_in, unknown};
 use crate::stop::Stop;
-use build_files::{ListEnd, has_copy_rule, path_of};
+use build_files::{ListEnd, has_copy_rule};
 use rule_graph::{BuildFault, Graph};
 use scons_base::{NodeId, PathText, Text};
 use sign_store::View;
@@ -27,6 +28,7 @@ pub(crate) fn check_members<W: World>(
     word: &Text,
     members: &[NodeId],
 ) -> Result<(), Stop>
+    requires { AreNodes graph.now members.now }
     ensures watches { Watches W.meaning world.old world.new }
     ensures step { WorldStep (W.meaning.counts world.old) (W.meaning.counts world.new) result }
     ensures stops { IfErr result (StopsFor (IsNoPath word.now)) }
@@ -51,6 +53,7 @@ fn check_member<W: World>(
     word: &Text,
     member: NodeId,
 ) -> Result<(), Stop>
+    requires { member.0 < length graph.now.nodes }
     ensures watches { Watches W.meaning world.old world.new }
     ensures step { WorldStep (W.meaning.counts world.old) (W.meaning.counts world.new) result }
     ensures stops { IfErr result (StopsFor (IsNoPath word.now)) }
@@ -59,7 +62,7 @@ fn check_member<W: World>(
     if graph.rule_of(member).is_some() {
         return Ok(());
     }
-    let path = path_of(graph, member)?;
+    let path = graph.path(member);
     if is_there(alloc, world, graph, view, path)? {
         return Ok(());
     }

@@ -11,8 +11,7 @@ ghost use Rattle.world_api.specs.Banks.{Banks};
 
 use crate::lookups::{Lookups, is_left_over};
 use crate::members::check_members;
-use crate::report::Top;
-use crate::stop::Stop;
+use crate::stop::{OwnFault, Stop};
 use build_files::{ListEnd, has_copy_rule};
 use rule_graph::{Graph, Wish};
 use scons_base::{Memory, NodeId, PathFault, PathText, Text, Texts};
@@ -116,6 +115,7 @@ fn request_of<W: World>(
     lookups: &mut Lookups,
     word: &Text,
 ) -> Result<Request, Stop>
+    requires { KnowsNodes graph.old lookups.old.below }
     ensures watches { Watches W.meaning world.old world.new }
     ensures step { WorldStep (W.meaning.counts world.old) (W.meaning.counts world.new) result }
     ensures stops { IfErr result (StopsFor (IsUnknownAs graph.new word.now)) }
@@ -269,7 +269,7 @@ pub(crate) fn unknown(word: &Text) -> Stop
     ensures inside { IsInside result }
 {
     match word.copy() {
-        Ok(word) => Stop::Fault(Top::UnknownTarget(word)),
+        Ok(word) => Stop::Fault(OwnFault::UnknownTarget(word)),
         Err(_) => Stop::Memory,
     }
 }

@@ -1,25 +1,26 @@
 //! What the faults of a run's first steps say on standard error.
 ghost use Rattle.std.specs.Prelude.{◌≡◌, IfOk, string_bytes};
 ghost use Rattle.scons_host.specs.Kinds.{IsKindText};
+ghost use Rattle.scons_top.specs.Faults.{top_of_own};
+ghost use Rattle.scons_top.specs.declared.report.Top.{Top};
 ghost use Rattle.scons_top.specs.Texts.{IsTopText, bank_name, foreign_text, reading_text, unknown_text, usage_text};
 
-use crate::report::Top;
+use crate::stop::OwnFault;
 use scons_base::{Memory, PathText, Text};
 use scons_host::ReadKind;
 use scons_words::UsageKind;
 use std::alloc::Global;
 use world_api::Bank;
 
-/// The line of a fault that no build finds. The others have none here, and no run stops for them so.
-pub(crate) fn top_text(alloc: Global, fault: &Top) -> Result<String, Memory>
-    ensures { IfOk result (λ text. IsTopText fault.now (string_bytes text)) }
+/// The line of a fault that no build finds.
+pub(crate) fn own_text(alloc: Global, fault: &OwnFault) -> Result<String, Memory>
+    ensures { IfOk result (λ text. IsTopText (top_of_own fault.now) (string_bytes text)) }
 {
     match fault {
-        Top::Usage(place, kind) => usage_text(alloc, *place, *kind),
-        Top::Reading(file, line, kind) => reading_text(alloc, file, *line, kind),
-        Top::UnknownTarget(word) => unknown_text(alloc, word),
-        Top::StoreForeign(bank) => foreign_text(alloc, *bank),
-        _ => Err(Memory),
+        OwnFault::Usage(place, kind) => usage_text(alloc, *place, *kind),
+        OwnFault::Reading(file, line, kind) => reading_text(alloc, file, *line, kind),
+        OwnFault::UnknownTarget(word) => unknown_text(alloc, word),
+        OwnFault::StoreForeign(bank) => foreign_text(alloc, *bank),
     }
 }
 

@@ -2,7 +2,7 @@
 ghost use Rattle.std.specs.Prelude.{◌≡◌, ◌≢◌, [], ℕ, Ok, Err, IfOk, IfErr, Contains, IsSome, IsTrue};
 ghost use Rattle.build_run.specs.Goings.{Passes};
 ghost use Rattle.scons_top.specs.Asked.{StopsUnknown, TellUnknown};
-ghost use Rattle.scons_top.specs.Builds.{Builds, RunBuilds};
+ghost use Rattle.scons_top.specs.Builds.{Builds, RemembersAt, RunBuilds};
 ghost use Rattle.scons_top.specs.Causes.{RunCauses};
 ghost use Rattle.scons_top.specs.Cleaned.{Cleans, RunCleans};
 ghost use Rattle.scons_top.specs.Foreign.{RunByBytes, TellsBytes};
@@ -72,6 +72,7 @@ pub fn scons<W: World, O: Sink, E: Sink>(
     ensures unchanged { (fault : Top) → Contains result.faults fault → IsEarly fault → Looks W.meaning world.old world.new }
     ensures builds { (said : Words) → read words.now ≡ Ok said → Builds W.meaning said world.old world.new result }
     ensures safe { RunsSafely W.meaning world.old world.new }
+    ensures remembers { (said : Words) → read words.now ≡ Ok said → RemembersAt W.meaning said result.step world.old world.new result }
     ensures status { HasStatus result.status result.faults }
     ensures causes { RunCauses W.meaning O.meaning E.meaning world.old out.old err.old world.new out.new err.new result }
     ensures prints { ReportPrints W.meaning O.meaning words.now world.old out.old world.new out.new result }
@@ -202,6 +203,7 @@ fn serve<W: World, O: Sink, E: Sink>(
 ) -> Result<Report, Stop>
     requires unclosed { W.meaning.closed world.old ≡ [] }
     requires idle { W.meaning.tells world.old → (W.meaning.around world.old).running ≡ [] }
+    requires nodes { AskForNodes graph.old requests.now }
     ensures serves { ServesAt words.now at.new }
     ensures leaves { LeavesAt W.meaning at.new world.old world.new }
     ensures ends { RunEndsAt at.new result }

@@ -20,6 +20,7 @@ returns c =
         prints = did.prints;
         refused = did.refused;
         safe = did.safe;
+        remembers = did.remembers;
         idle = did.idle tt;
       };
     }

@@ -13,7 +13,8 @@ use Rattle.world_api.proofs.Looking.{looks_same}
 use Rattle.sign_store.specs.Stores.{map_of}
 use Rattle.build_run.proofs.Goings.{passes_on}
 use Rattle.scons_top.specs.Requested.{AreNodes}
-use Rattle.scons_top.proofs.Building.{build_done, built_looked, stops, stops_begun}
+use Rattle.scons_top.proofs.Building.{stops, stops_begun}
+use Rattle.scons_top.proofs.Built.{build_done, built_looked}
 use Rattle.scons_top.proofs.Shown.{caused_skipping, ends_skipping, none_found, tells_skipping}
 use Rattle.scons_top.proofs.Watching.{idle_of, passes_of}
 use Rattle.scons_top.proofs.Requesting.{are_below_all}
@@ -64,14 +65,13 @@ returns-clause-builds g c = λ asks ask tells sure.
     let nodes = subst (AreNodes graph) (sym c.as_slice.ensures.value) (c.in_ok-nodes.ensures.nodes graph asks) in
     let store = c.in_ok-store in
     let end = c.build-end in
-    let told = end.ensures.told.told tells in
     build_done g.W.Disk.meaning c.args.words.now graph requested (map_of store.store) c.args.world.now c.begin_store.new.world end.new.world
     (map_of end.new.store) end.result c.closed.result store.ensures.begins
     (steps_begun g.W.Disk.meaning g.met.W.Disk.reads_as c.args.world.now c.begin_store.new.world c.begin_store.ensures.goes.passes.told store.ensures.begins)
-    told store.ensures.step (store.ensures.map told)
+    end.ensures.told store.ensures.step store.ensures.map
     (are_below_all graph requested nodes) c.closed.ensures.well c.closed.ensures.whole
     (λ ne. all_told end.result.faults c.tell_end-written.result c.closed.result.faults (c.closed.ensures.list ne)) c.closed.ensures.skipped end.ensures.ends
-    tells sure end.ensures.skips end.ensures.succeeds
+    tells sure end.ensures.skips end.ensures.counts.counted end.ensures.remembers end.ensures.succeeds
 
 pub returns-in_err-nodes-clause-safe : goal.returns-in_err-nodes-clause-safe
 returns-in_err-nodes-clause-safe g c = λ asks. steps_here g.W.Disk.meaning g.met.W.Disk.only_now c.args.world.now
@@ -132,17 +132,16 @@ returns-then-has_trees-clause-builds g c = λ asks ask tells sure.
     let end = c.build-end in
     let watches = c.tell_trees-report.ensures.watches in
     let here = watches.looks.told.told tells in
-    let told = end.ensures.told.told here in
     let is = c.if-has_trees.true in
     let has = c.has_trees.ensures in
     let report = record c.tell_trees-report.result { skipped = end.result.skipped } in
-    built_looked m said old end.new.world c.tell_trees-report.new.world report watches tells (end.ensures.idle here)
+    built_looked m said old end.new.world c.tell_trees-report.new.world report g.met.W.Disk.only_now watches tells end.ensures.idle
     (build_done m said graph requested (map_of store.store) old c.begin_store.new.world end.new.world (map_of end.new.store) end.result
     report store.ensures.begins
     (steps_begun m g.met.W.Disk.reads_as old c.begin_store.new.world c.begin_store.ensures.goes.passes.told store.ensures.begins)
-    told store.ensures.step (store.ensures.map told) (are_below_all graph requested nodes)
+    end.ensures.told store.ensures.step store.ensures.map (are_below_all graph requested nodes)
     (λ zero. (has.faults is, has.memory is)) (λ ne. has.memory is) (λ ne. none_left end.result.faults report.faults (has.faults is)) refl end.ensures.ends
-    here (watches.looks.told.sure tells sure) end.ensures.skips end.ensures.succeeds)
+    here (watches.looks.told.sure tells sure) end.ensures.skips end.ensures.counts.counted end.ensures.remembers end.ensures.succeeds)
 
 pub returns-then-has_trees-clause-safe : goal.returns-then-has_trees-clause-safe
 returns-then-has_trees-clause-safe g c = λ asks.

@@ -1,6 +1,7 @@
 use Rattle.build_means.specs.Rules.{paths_of}
 use Rattle.scons_top.specs.Cleaned.{Cleared}
 use Rattle.scons_top.proofs.Clearing.{GoneTo}
+use Rattle.scons_top.specs.Remembered.{LeavesBanks}
 use Rattle.scons_top.specs.Stopping.{RunsSafely}
 use Rattle.std.proofs.Common.{◌≡◌, ℕ, take}
 use Rattle.scons_top.specs.Printed.{LeavesBy}
@@ -16,6 +17,7 @@ invariant-loop-target g l = record {
   stays : Stays g.W.Disk.meaning l.fn.world l.world;
   same : (err : ℕ) → outside (g.W.Disk.meaning.counts l.world) (g.O.Sink.meaning.faults l.out) err ≡ outside (g.W.Disk.meaning.counts l.fn.world) (g.O.Sink.meaning.faults l.fn.out) err;
   safe : RunsSafely g.W.Disk.meaning l.fn.world l.world;
+  moments : LeavesBanks g.W.Disk.meaning l.fn.world l.world;
   dry : IsTrue l.words.dry → Watches g.W.Disk.meaning l.fn.world l.world;
   cleared : Cleared g.W.Disk.meaning (paths_of l.graph l.targets) l.fn.world l.world;
   gone : GoneTo g.W.Disk.meaning l.words l.graph l.targets l.target-index l.world;

@@ -9,9 +9,18 @@ use Rattle.scons_top.proofs.Requesting.{are_below_all}
 use Rattle.scons_top.proofs.Stepping.{ends_exit, ends_memory, sink_at}
 use Rattle.world_api.proofs.Looking.{looks_same}
 use Rattle.scons_top.proofs.Stopping.{steps_here}
+use Rattle.scons_top.proofs.Remembered.{banks_here}
 use Rattle.std.proofs.Common.{◌∙◌, inl, inr, refl, subst, sym}
 use Rattle.scons_top.proofs.Causing.{same_out, exit_report, report_memory, sink_stop, stop_back, good_step}
 use Rattle.scons_top.proofs.clean_step.clean_requests.Goals as goal
+
+pub clean_rules-requires-clause-known : goal.clean_rules-requires-clause-known
+clean_rules-requires-clause-known g c =
+    let graph = c.args.graph.now in
+    let below = are_below_all graph c.as_slice.result.now (subst (AreNodes graph) (sym c.as_slice.ensures.value) (c.in_ok-nodes.ensures.nodes graph c.requires.nodes)) in
+    let list = requested_list graph c.as_slice.result.now (nodes_asked c.args.requests.now) c.as_slice-2.result.now _ (c.as_slice.ensures.value ∙ c.in_ok-nodes.ensures.are) c.as_slice-2.ensures below
+    c.in_ok-rules.ensures in
+    list.known
 
 pub returns-in_err-nodes-clause-reports : goal.returns-in_err-nodes-clause-reports
 returns-in_err-nodes-clause-reports g c = λ err. report_memory _ _ c.from_residual.result c.from_residual.ensures.1 refl
@@ -45,11 +54,20 @@ returns-clause-reports g c = λ err.
 pub returns-in_err-nodes-clause-safe : goal.returns-in_err-nodes-clause-safe
 returns-in_err-nodes-clause-safe g c = steps_here g.W.Disk.meaning g.met.W.Disk.only_now c.args.world.now
 
+pub returns-in_err-nodes-clause-moments : goal.returns-in_err-nodes-clause-moments
+returns-in_err-nodes-clause-moments g c = banks_here g.W.Disk.meaning g.met.W.Disk.only_now c.args.world.now
+
 pub returns-in_err-say-clause-safe : goal.returns-in_err-say-clause-safe
 returns-in_err-say-clause-safe g c = steps_here g.W.Disk.meaning g.met.W.Disk.only_now c.args.world.now
 
+pub returns-in_err-say-clause-moments : goal.returns-in_err-say-clause-moments
+returns-in_err-say-clause-moments g c = banks_here g.W.Disk.meaning g.met.W.Disk.only_now c.args.world.now
+
 pub returns-in_err-rules-clause-safe : goal.returns-in_err-rules-clause-safe
 returns-in_err-rules-clause-safe g c = steps_here g.W.Disk.meaning g.met.W.Disk.only_now c.args.world.now
+
+pub returns-in_err-rules-clause-moments : goal.returns-in_err-rules-clause-moments
+returns-in_err-rules-clause-moments g c = banks_here g.W.Disk.meaning g.met.W.Disk.only_now c.args.world.now
 
 pub returns-in_err-nodes-clause-ends : goal.returns-in_err-nodes-clause-ends
 returns-in_err-nodes-clause-ends g c = ends_memory step.Cleaning c.from_residual.result c.from_residual.ensures.1

@@ -11,6 +11,7 @@ use Rattle.scons_top.proofs.Causing.{look_exit_as, look_after}
 use Rattle.scons_top.proofs.Clearing.{cleared_asked, cleared_on, no_file}
 use Rattle.scons_top.proofs.Stepping.{tree_exit}
 use Rattle.scons_top.proofs.Stopping.{steps_looked, steps_on}
+use Rattle.scons_top.proofs.Remembered.{banks_looked, banks_on}
 use Rattle.scons_top.proofs.clean_step.is_removed.Goals as goal
 
 pub take-requires : goal.take-requires
@@ -34,6 +35,10 @@ pub returns-in_err-stands-clause-safe : goal.returns-in_err-stands-clause-safe
 returns-in_err-stands-clause-safe g c =
     steps_looked g.W.Disk.meaning g.met.W.Disk.only_now c.args.world.now c.is_file.new.world c.is_file.ensures.watches.looks
 
+pub returns-in_err-stands-clause-moments : goal.returns-in_err-stands-clause-moments
+returns-in_err-stands-clause-moments g c =
+    banks_looked g.W.Disk.meaning g.met.W.Disk.only_now c.args.world.now c.is_file.new.world c.is_file.ensures.watches.looks
+
 pub returns-then-stands-clause-cleared : goal.returns-then-stands-clause-cleared
 returns-then-stands-clause-cleared g c = λ t.
     let looks = c.is_file.ensures.watches.looks in
@@ -55,6 +60,12 @@ returns-then-stands-clause-safe g c =
     (steps_looked g.W.Disk.meaning g.met.W.Disk.only_now c.args.world.now c.is_file.new.world c.is_file.ensures.watches.looks)
     c.take.ensures.safe
 
+pub returns-then-stands-clause-moments : goal.returns-then-stands-clause-moments
+returns-then-stands-clause-moments g c =
+    banks_on g.W.Disk.meaning c.args.world.now c.is_file.new.world c.take.new.world
+    (banks_looked g.W.Disk.meaning g.met.W.Disk.only_now c.args.world.now c.is_file.new.world c.is_file.ensures.watches.looks)
+    c.take.ensures.moments
+
 pub returns-clause-cleared : goal.returns-clause-cleared
 returns-clause-cleared g c = λ t.
     let looks = c.is_file.ensures.watches.looks in
@@ -72,6 +83,10 @@ returns-clause-stays g c = stays_of _ _ _ c.is_file.ensures.watches
 pub returns-clause-safe : goal.returns-clause-safe
 returns-clause-safe g c =
     steps_looked g.W.Disk.meaning g.met.W.Disk.only_now c.args.world.now c.is_file.new.world c.is_file.ensures.watches.looks
+
+pub returns-clause-moments : goal.returns-clause-moments
+returns-clause-moments g c =
+    banks_looked g.W.Disk.meaning g.met.W.Disk.only_now c.args.world.now c.is_file.new.world c.is_file.ensures.watches.looks
 
 pub returns-then-stands-clause-there : goal.returns-then-stands-clause-there
 returns-then-stands-clause-there g c = λ t.

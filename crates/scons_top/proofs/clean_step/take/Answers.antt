@@ -7,6 +7,7 @@ use Rattle.scons_top.proofs.Clearing.{cleared_same}
 use Rattle.scons_top.proofs.Stepping.{tree_exit}
 use Rattle.scons_top.proofs.Causing.{look_exit_as}
 use Rattle.scons_top.proofs.Stopping.{steps_here}
+use Rattle.scons_top.proofs.Remembered.{banks_here}
 use Rattle.scons_top.proofs.clean_step.take.Goals as goal
 
 pub returns-then-words-clause-cleared : goal.returns-then-words-clause-cleared
@@ -20,6 +21,9 @@ returns-then-words-clause-stays g c = stays_here g.W.Disk.meaning c.args.world.n
 
 pub returns-then-words-clause-safe : goal.returns-then-words-clause-safe
 returns-then-words-clause-safe g c = steps_here g.W.Disk.meaning g.met.W.Disk.only_now c.args.world.now
+
+pub returns-then-words-clause-moments : goal.returns-then-words-clause-moments
+returns-then-words-clause-moments g c = banks_here g.W.Disk.meaning g.met.W.Disk.only_now c.args.world.now
 
 pub returns-then-words-clause-dry : goal.returns-then-words-clause-dry
 returns-then-words-clause-dry g c = λ is. watches_same g.W.Disk.meaning c.args.world.now

@@ -1,10 +1,16 @@
 use Rattle.scons_top.proofs.Opening.{bytes_after, bytes_exit}
 use Rattle.scons_top.proofs.Asking.{asked_exit}
 use Rattle.scons_top.specs.Asked.{IsNoPath}
-use Rattle.std.proofs.Common.{◌∙◌}
+use Rattle.std.proofs.Common.{◌∙◌, ◌<◌, length}
+use Rattle.std.proofs.lemmas.List.Elements.{All-get_or}
+use Rattle.scons_base.specs.declared.ids.NodeId.{NodeId}
 use Rattle.scons_top.proofs.Watching.{watches_on}
 use Rattle.scons_top.proofs.Causing.{world_back, world_exit}
 use Rattle.scons_top.proofs.members.check_members.Goals as goal
+
+pub check_member-requires : goal.check_member-requires
+check_member-requires g c =
+    All-get_or (λ (node : NodeId). node.0 < length c.args.graph.now.nodes) c.args.members.now c.loop-member.member-index _ c.loop-member-test.true c.requires
 
 pub returns-in_err-check_member-clause-watches : goal.returns-in_err-check_member-clause-watches
 returns-in_err-check_member-clause-watches g c = watches_on _ _ _ _ c.loop-member.invariant.watches c.check_member.ensures.watches

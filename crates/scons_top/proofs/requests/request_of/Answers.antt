@@ -1,13 +1,17 @@
 use Rattle.scons_top.proofs.Opening.{bytes_memory, bytes_exit, bytes_list, bytes_after}
 use Rattle.scons_top.proofs.Asking.{asked_exit, asked_list, asked_memory, look_at, stops_weaker, ends_weaker, none_as, read_as, target_spelled, unknown_path, unknown_alias, unknown_at}
 use Rattle.scons_top.specs.Asked.{is_target, IsNoPath, IsUnknownAs, IsWordIn, NamesNone}
+use Rattle.scons_top.specs.Requested.{AreNodes}
 use Rattle.scons_base.specs.Resolve.{spelling}
 use Rattle.rule_graph.specs.Aliases.{members_of}
-use Rattle.std.proofs.Common.{rules, ◌≡◌, ◌∙◌, false, ap, refl, sym, None}
+use Rattle.std.proofs.Common.{rules, ◌≡◌, ◌∙◌, false, ap, refl, subst, sym, None}
 use Rattle.std.specs.Option.{option_copied}
 use Rattle.scons_top.proofs.Watching.{watches_on}
 use Rattle.scons_top.proofs.Causing.{world_back, world_exit, look_exit, inner_step, world_memory}
 use Rattle.scons_top.proofs.requests.request_of.Goals as goal
+
+pub check_members-requires : goal.check_members-requires
+check_members-requires g c = subst (AreNodes c.args.graph.now) (sym c.as_slice.ensures.value) (c.in_ok-nodes.ensures.nodes c.requires)
 
 pub returns-in_err-nodes-clause-step : goal.returns-in_err-nodes-clause-step
 returns-in_err-nodes-clause-step g c = world_memory _ _ c.from_residual.result c.from_residual.ensures.1 refl

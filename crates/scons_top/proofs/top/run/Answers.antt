@@ -13,7 +13,8 @@ use Rattle.std.proofs.Common.{◌∙◌, ap, inl, subst, sym}
 use Rattle.build_run.specs.Causes.{Outside}
 use Rattle.scons_top.specs.Asked.{words_asked}
 use Rattle.scons_top.specs.Requested.{AskForNodes}
-use Rattle.scons_top.proofs.Building.{builds_looked, no_help, stops}
+use Rattle.scons_top.proofs.Building.{no_help, stops}
+use Rattle.scons_top.proofs.Built.{builds_looked}
 use Rattle.scons_top.proofs.Causing.{same_world, exit_report, world_stop, stop_back, report_back}
 use Rattle.scons_top.proofs.top.run.Goals as goal
 
@@ -46,6 +47,9 @@ returns-in_err-requests-clause-reports g c =
 pub returns-clause-reports : goal.returns-clause-reports
 returns-clause-reports g c = report_back _ _ _ c.serve.result (same_world _ _ _ _ c.in_ok-requests.ensures.step ∙ c.in_ok-graph.ensures.steps _) c.serve.ensures.reports
 
+pub serve-requires-clause-nodes : goal.serve-requires-clause-nodes
+serve-requires-clause-nodes g c = subst (AskForNodes c.requests_of.new.graph) (sym c.as_slice.ensures.value) c.in_ok-requests.ensures.nodes
+
 pub returns-in_err-graph-clause-builds : goal.returns-in_err-graph-clause-builds
 returns-in_err-graph-clause-builds g c =
     stops g.W.Disk.meaning c.args.words.now c.args.world.now _ c.from_residual.result _ c.from_residual.ensures.1 (inl c.read.ensures.watches.looks)
@@ -62,8 +66,8 @@ returns-in_err-requests-clause-builds g c =
 pub returns-clause-builds : goal.returns-clause-builds
 returns-clause-builds g c =
     let counts = c.in_ok-requests.ensures.step ∙ ap (λ (o : Outside). o.counts) (c.in_ok-graph.ensures.steps 0) in
-    builds_looked g.W.Disk.meaning c.args.words.now c.args.world.now c.requests_of.new.world c.serve.new.world c.serve.result
-    (looks_joined _ _ _ _ c.read.ensures.watches.looks c.requests_of.ensures.watches.looks) c.serve.ensures.passes.told.told c.requires.idle counts
+    builds_looked g.W.Disk.meaning c.args.words.now c.args.world.now c.requests_of.new.world c.serve.new.world c.serve.result g.met.W.Disk.only_now
+    (looks_joined _ _ _ _ c.read.ensures.watches.looks c.requests_of.ensures.watches.looks) c.serve.ensures.passes.told c.requires.idle counts
     (steps_looked g.W.Disk.meaning g.met.W.Disk.only_now c.args.world.now c.requests_of.new.world
     (looks_joined _ _ _ _ c.read.ensures.watches.looks c.requests_of.ensures.watches.looks))
     (c.serve.ensures.builds (subst (AskForNodes c.requests_of.new.graph) (sym c.as_slice.ensures.value) c.in_ok-requests.ensures.nodes))
@@ -104,7 +108,7 @@ pub returns-in_err-requests-clause-leaves : goal.returns-in_err-requests-clause-
 returns-in_err-requests-clause-leaves g c = looks_joined _ _ _ _ c.read.ensures.watches.looks c.requests_of.ensures.watches.looks
 
 pub returns-clause-leaves : goal.returns-clause-leaves
-returns-clause-leaves g c = leaves_after _ _ _ _ _ (watches_on _ _ _ _ c.read.ensures.watches c.requests_of.ensures.watches) c.serve.ensures.leaves
+returns-clause-leaves g c = leaves_after _ g.met.W.Disk.only_now _ _ _ _ (watches_on _ _ _ _ c.read.ensures.watches c.requests_of.ensures.watches) c.serve.ensures.leaves
 
 pub returns-in_err-graph-clause-ends : goal.returns-in_err-graph-clause-ends
 returns-in_err-graph-clause-ends g c = ends_exit _ c.from_residual.result _ c.from_residual.ensures.1 c.in_err-graph.ensures.stops

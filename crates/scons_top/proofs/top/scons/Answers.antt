@@ -4,6 +4,7 @@ use Rattle.scons_top.proofs.Telling.{tells_stopped}
 use Rattle.scons_top.proofs.Opening.{report_bytes, stopped_bytes}
 use Rattle.scons_top.proofs.Clearing.{cleans_report, cleans_stop}
 use Rattle.scons_top.proofs.Asking.{none_told, told_alone}
+use Rattle.scons_top.proofs.Keeping.{remembers_at}
 use Rattle.scons_top.proofs.Stepping.{comes_as, leaves_as, faults_as, alone_at, refuses, reports_refused, usage_told, usage_reported}
 use Rattle.std.proofs.Common.{inl, inr}
 use Rattle.scons_top.proofs.top.scons.Goals as goal
@@ -28,6 +29,16 @@ returns-in-Ok-clause-leaves g c = leaves_as g.W.Disk.meaning _ _ _ _ c.in-Ok.ens
 
 pub returns-in-Err-clause-leaves : goal.returns-in-Err-clause-leaves
 returns-in-Err-clause-leaves g c = leaves_as g.W.Disk.meaning _ _ _ _ c.ended.ensures.at c.in-Err.ensures.leaves
+
+pub returns-in-Ok-clause-remembers : goal.returns-in-Ok-clause-remembers
+returns-in-Ok-clause-remembers g c = λ said is.
+    remembers_at g.W.Disk.meaning g.met.W.Disk.only_now said _ _ _ c.in-Ok.report (returns-in-Ok-clause-comes g c said is) (returns-in-Ok-clause-leaves g c)
+    (returns-in-Ok-clause-builds g c said is)
+
+pub returns-in-Err-clause-remembers : goal.returns-in-Err-clause-remembers
+returns-in-Err-clause-remembers g c = λ said is.
+    remembers_at g.W.Disk.meaning g.met.W.Disk.only_now said _ _ _ c.ended.result (returns-in-Err-clause-comes g c said is) (returns-in-Err-clause-leaves g c)
+    (returns-in-Err-clause-builds g c said is)
 
 pub returns-in-Ok-clause-faults : goal.returns-in-Ok-clause-faults
 returns-in-Ok-clause-faults g c = faults_as _ _ _ c.in-Ok.ensures.ends.ends c.in-Ok.ensures.ends.faults

@@ -34,7 +34,7 @@ pub returns-clause-serves : goal.returns-clause-serves
 returns-clause-serves g c = building_serves c.args.words.now c.build_requests.new.at c.if-words.false c.if-words-2.false c.build_requests.ensures.building
 
 pub returns-then-words-clause-leaves : goal.returns-then-words-clause-leaves
-returns-then-words-clause-leaves g c = c.clean_requests.ensures.stays
+returns-then-words-clause-leaves g c = record { stays = c.clean_requests.ensures.stays; moments = c.clean_requests.ensures.moments }
 
 pub returns-then-words-2-clause-leaves : goal.returns-then-words-2-clause-leaves
 returns-then-words-2-clause-leaves g c = leaves_listing _ _ _ _ c.list_requests.ensures.listing c.list_requests.ensures.watches.looks

@@ -1,8 +1,12 @@
 use Rattle.std.proofs.Common.{sym, subst, Vec, Global}
 use Rattle.scons_base.specs.declared.ids.NodeId.{NodeId}
 use Rattle.scons_top.specs.Requested.{AreNodes, KnowsNodes}
+use Rattle.scons_top.proofs.Requesting.{below_at}
 use Rattle.scons_top.proofs.below.Below.members_of.Goals as goal
 use Rattle.scons_top.proofs.below.Below.members_of.Goals.{then-is_new+in_ok-add_member, else-is_new}
+
+pub add_member-requires : goal.add_member-requires
+add_member-requires c = below_at c.args.graph.now c.args.members.now c.loop-member.member-index _ c.loop-member-test.true c.requires
 
 pub loop-member-preserved : goal.loop-member-preserved
 loop-member-preserved c =
