@@ -2,6 +2,7 @@ pub mod Binding
 pub mod Flattening
 pub mod Identifiers
 pub mod Kinds
+pub mod Laws
 pub mod Names
 pub mod Requests
 pub mod Results

@@ -10,9 +10,7 @@ use crate::exports::put_named;
 use crate::fault::CallFault;
 use crate::name::{Builds, Environs, Name, Says, Shares, Tells};
 use crate::objects::Objects;
-use crate::parts::{
-    any, exports, flag, mode, nodes, nodes_in, pairs, place, place_if, text, texts,
-};
+use crate::parts::{any, exports, flag, mode, nodes, nodes_in, pairs, place, place_if, text, texts};
 use crate::request::{Request, ScriptFiles, Shared, Valued};
 use crate::signatures::{own_builder_signature, signature};
 use crate::variables_given::variables;
@@ -23,12 +21,18 @@ use scons_decls::{Builder, Call, Change, Maker, Nodes, RuleCall, SayCall, Variab
 use std::alloc::Global;
 
 /// What a call of a name asks.
+#[tactic(auto, using(crate::proofs::Tails::tails))]
 pub fn request_of(
     heap: &Heap,
     objects: &Objects,
     name: Name,
     args: &Args,
-) -> Result<Request, CallFault> {
+) -> Result<Request, CallFault>
+    ensures ok { let given = arguments_of args.now in
+        IfOk result (λ r. request_of heap.now objects.now name given ≡ Ok r) }
+    ensures fault { let given = arguments_of args.now in
+        IfErr result (λ e. e ≢ CallFault.Memory → request_of heap.now objects.now name given ≡ Err e) }
+{
     let signature = signature(name);
     let mut arguments = bound(heap, objects, &signature, args)?;
     let variables = variables(heap, objects, &signature, &args.named)?;
@@ -36,21 +40,22 @@ pub fn request_of(
 }
 
 /// What a call of an environment's own builder asks.
+#[tactic(auto, using(crate::proofs::Tails::tails))]
 pub fn own_request_of(
     heap: &Heap,
     objects: &Objects,
     name: &Text,
     args: &Args,
-) -> Result<Request, CallFault> {
+) -> Result<Request, CallFault>
+    ensures ok { let given = arguments_of args.now in
+        IfOk result (λ r. own_request_of heap.now objects.now name.now given ≡ Ok r) }
+    ensures fault { let given = arguments_of args.now in
+        IfErr result (λ e. e ≢ CallFault.Memory → own_request_of heap.now objects.now name.now given ≡ Err e) }
+{
     let signature = own_builder_signature();
     let mut arguments = bound(heap, objects, &signature, args)?;
     let variables = variables(heap, objects, &signature, &args.named)?;
-    built(
-        heap.allocator(),
-        Maker::Own(name.copy()?),
-        &mut arguments,
-        variables,
-    )
+    built(heap.allocator(), Maker::Own(name.copy()?), &mut arguments, variables)
 }
 
 fn asked(
