@@ -5,6 +5,7 @@ use Rattle.std.specs.Option.{option_map_or}
 use Rattle.std.specs.List.{list_any}
 use Rattle.std.proofs.lemmas.List.Folds.{list_any-append}
 use Rattle.std.proofs.lemmas.Bool.Decides.{nat_tests}
+use Rattle.std.proofs.lemmas.Grind.{common_steps}
 use Rattle.scons_base.specs.declared.limits.TheConstants.{LIST_LIMIT, NESTING_LIMIT}
 use Rattle.py_heap.specs.declared.value.Value.{Value}
 use Rattle.py_heap.specs.Heap.{Objects, items_of}
@@ -50,7 +51,7 @@ within_more room n m e = grind (arith, nat_tests)
 two_takes : (room n m : ℕ) → room - n - m ≡ room - (n + m)
 two_takes room n m = omega arith
 
-abbrev flat_with : ℕ → List Value → Flat
+abbrev pub flat_with : ℕ → List Value → Flat
 flat_with room items = record { room = room; items = items }
 
 -- items behind items
@@ -70,7 +71,7 @@ then_same (Ok t) f g e = e t
 then_same (Err k) f g e = refl
 
 none_met : (h : Objects) (flat : Flat) → Ok flat ≡ behind h flat 0 []
-none_met h flat = grind arith
+none_met h flat = grind (arith, common_steps)
 
 -- value by value
 each_behind : (h : Objects) (one : Flat → Value → Result Flat CallFault) (meets gives : Value → List Value) → ((f : Flat) (x : Value) → one f x ≡ behind h f (length (meets x)) (gives x)) → (flat : Flat) (values : List Value) → along one flat values ≡ behind h flat (length (flat_map meets values)) (flat_map gives values)
@@ -185,3 +186,15 @@ list_step h inside flat x inner r room some is = rw (room, some) is
 
 pub full_step : (h : Objects) (inside : Flat → List Value → Result Flat CallFault) (flat : Flat) (x : Value) → (flat.room == 0) ≡ true → step h inside flat x ≡ Err fault.Arguments
 full_step h inside flat x room = rw room refl
+
+-- at the last level, and above it
+pub inside_none : (h : Objects) (levels : ℕ) (flat : Flat) (inner : List Value) → levels ≡ 0 → inside h levels flat inner ≡ Err fault.Arguments
+inside_none h levels flat inner e = ap (λ n. inside h n flat inner) e
+
+pub inside_below : (h : Objects) (levels : ℕ) (flat : Flat) (inner : List Value) (r : Result Flat CallFault) → (levels ≡ 0 → ⊥) → flat_by h (levels - 1) flat inner ≡ r → inside h levels flat inner ≡ r
+inside_below h zero flat inner r above is = absurd (above refl)
+inside_below h (suc levels) flat inner r above is =
+    let below : suc levels - 1 ≡ levels = omega arith in
+    ap (λ n. flat_by h n flat inner) (sym below) ∙ is
+
+pub ruleset flats = (flat_whole, items_alone, item_step, list_step, full_step)

@@ -62,9 +62,10 @@ fn test_names(alloc: Global, signature: &Signature, args: &Args) -> Result<(), C
     ensures ok { OnOk result (names_fit signature.now (arguments_of args.now) ≡ Ok tt) }
     ensures fault { IfErr result (λ e. e ≢ CallFault.Memory → names_fit signature.now (arguments_of args.now) ≡ Err e) }
 {
+    let count = args.positional.as_slice().len();
     'names: for at in 0..args.named.len() {
         if let Some((name, value)) = args.named.at(at) {
-            test_name(alloc, signature, args.positional.len(), name, value)?;
+            test_name(alloc, signature, count, name, value)?;
         }
     }
     Ok(())
@@ -132,7 +133,7 @@ fn place_among(parameters: &[Parameter], name: &str) -> Option<usize>
 fn test_numbers(parameters: &[Parameter], args: &Args) -> Result<(), CallFault>
     ensures { result ≡ numbers_fit (map parameter_of parameters.now) (arguments_of args.now) }
 {
-    if goes_past(parameters, args.positional.len()) {
+    if goes_past(parameters, args.positional.as_slice().len()) {
         return Err(CallFault::Arguments);
     }
     test_needed(parameters, args)

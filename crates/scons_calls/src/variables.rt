@@ -4,7 +4,7 @@ ghost use Rattle.std.specs.List.{list_all};
 ghost use Rattle.env_vars.specs.Given.{flag_text};
 ghost use Rattle.scons_calls.specs.Identifiers.{is_letter, is_part, is_identifier};
 ghost use Rattle.scons_calls.specs.Results.{and_one, and_more, each, each_joined};
-ghost use Rattle.scons_calls.specs.Variables.{item_by, item_of, entry_by, pair_by, dict_by, definition_by, define_by, only, macro_by, macros_by, list_for, is_macros, variable_by};
+ghost use Rattle.scons_calls.specs.Variables.{item_by, item_of, entry_by, pair_by, dict_by, definition_by, define_by, only, macro_by, macros_by, tuple_macros, list_for, is_macros, variable_by};
 
 use crate::fault::CallFault;
 use crate::flattening::flattened;
@@ -184,15 +184,28 @@ fn entry(heap: &Heap, objects: &Objects, name: &Text, value: Value) -> Result<It
     }
 }
 
-/// The macros of a list, or of one value: a tuple of two is a pair of a name and a value.
+/// The macros of a list, or of one value.
 fn defines(heap: &Heap, objects: &Objects, value: Value) -> Result<Listing<Item>, CallFault>
     ensures ok { IfOk result (λ items. macros_by heap.now objects.now value ≡ Ok items) }
     ensures fault { IfErr result (λ e. e ≢ CallFault.Memory → macros_by heap.now objects.now value ≡ Err e) }
 {
-    match (value, heap.items_of(value)) {
-        (Value::Tuple(_), Some([name, value])) => only(heap, define(heap, *name, *value)),
-        (_, Some(inner)) => macros(heap, objects, inner),
-        (value, None) => only(heap, item(heap, objects, value)),
+    let Some(inner) = heap.items_of(value) else {
+        return only(heap, item(heap, objects, value));
+    };
+    match value {
+        Value::Tuple(_) => tuple_macros(heap, objects, inner),
+        _ => macros(heap, objects, inner),
+    }
+}
+
+/// A tuple of two is a pair of a name and a value.
+fn tuple_macros(heap: &Heap, objects: &Objects, inner: &[Value]) -> Result<Listing<Item>, CallFault>
+    ensures ok { IfOk result (λ items. tuple_macros heap.now objects.now inner.now ≡ Ok items) }
+    ensures fault { IfErr result (λ e. e ≢ CallFault.Memory → tuple_macros heap.now objects.now inner.now ≡ Err e) }
+{
+    match inner {
+        [name, value] => only(heap, define(heap, *name, *value)),
+        [] | [_] | [_, _, _, ..] => macros(heap, objects, inner),
     }
 }
 
