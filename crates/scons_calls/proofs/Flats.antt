@@ -62,9 +62,9 @@ behind_more h flat n m xs ys =
     let room : flat_with (flat.room - n - m) ((flat.items ++ xs) ++ ys) ≡ flat_with (flat.room - (n + m)) ((flat.items ++ xs) ++ ys) = ap (λ r. flat_with r ((flat.items ++ xs) ++ ys)) (two_takes flat.room n m) in
     let items : flat_with (flat.room - (n + m)) ((flat.items ++ xs) ++ ys) ≡ last = ap (flat_with (flat.room - (n + m))) (append_assoc flat.items xs ys) in
     let here : behind h left m ys ≡ (if nat_lt (flat.room - n) m || list_any (is_list h) ys then Err fault.Arguments else Ok last) =
-        ap (λ l. if nat_lt (flat.room - n) m || list_any (is_list h) ys then Err fault.Arguments else Ok l) (room ∙ items) in
+    ap (λ l. if nat_lt (flat.room - n) m || list_any (is_list h) ys then Err fault.Arguments else Ok l) (room ∙ items) in
     rw (list_any-append (is_list h) xs ys)
-        (both (nat_lt flat.room n) (list_any (is_list h) xs) (list_any (is_list h) ys) (nat_lt flat.room (n + m)) (nat_lt (flat.room - n) m) left last (λ f. behind h f m ys) (past_more flat.room n m) (within_more flat.room n m) here)
+    (both (nat_lt flat.room n) (list_any (is_list h) xs) (list_any (is_list h) ys) (nat_lt flat.room (n + m)) (nat_lt (flat.room - n) m) left last (λ f. behind h f m ys) (past_more flat.room n m) (within_more flat.room n m) here)
 
 then_same : (made : Result Flat CallFault) (f g : Flat → Result Flat CallFault) → ((t : Flat) → f t ≡ g t) → and_then made f ≡ and_then made g
 then_same (Ok t) f g e = e t

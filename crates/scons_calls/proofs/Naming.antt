@@ -82,6 +82,7 @@ has_object things text stands = by (number_of text) refl
     at : (n : ℕ) (b : Bool) → number_of text ≡ Some n → IsSome (where_so b n) → IsSome (option_and_then (number_of_name (with_names things)) (where_so b n))
     at n true is some = has_number things n text is
     at n false is none = none
+
     by : (o : Option ℕ) → number_of text ≡ o → IsSome (number_named (with_names things) text)
     by None is = let none : false ≡ true = rw is at stands in absurd (true≢false (sym none))
     by (Some n) is =

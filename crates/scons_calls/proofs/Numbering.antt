@@ -21,7 +21,7 @@ pub first_names_more : (things done new : Things) (n id : ℕ) → numbered done
 first_names_more things done new n id made before =
     let added : insert_key thing_eq done (named n) ≡ new = ap (λ (p : ℕ × Things). p.1) made in
     let more : with_first_names (n + 1) things ≡ insert_key thing_eq (with_first_names n things) (named n) =
-        ap (insert_all thing_eq things) (map-range_with_len_more named 0 n n (omega arith)) ∙ fold_push (insert_key thing_eq) things (map named (range_with_len 0 n)) (named n) in
+    ap (insert_all thing_eq things) (map-range_with_len_more named 0 n n (omega arith)) ∙ fold_push (insert_key thing_eq) things (map named (range_with_len 0 n)) (named n) in
     sym added ∙ ap (λ (d : Things). insert_key thing_eq d (named n)) before ∙ sym more
 
 pub numbered_as : (things new : Things) (a b : Thing) (r : Result HostId Memory) → a ≡ b → IfOk r (λ id. numbered things a ≡ (id.0, new)) → IfOk r (λ id. numbered things b ≡ (id.0, new))

@@ -1,6 +1,5 @@
 //! Which argument of a call each parameter of a signature gets.
 ghost use Rattle.std.specs.Prelude.{◌≡◌, ◌≢◌, Ok, Err, IfOk, IfErr, OnOk, map, position};
-ghost use Rattle.std.specs.List.{list_any};
 ghost use Rattle.std.specs.Str.{bytes_eq};
 ghost use Rattle.py_host.specs.Calls.{arguments_of};
 ghost use Rattle.scons_calls.specs.Binding.{place_of, name_fits, names_fit, other_fits, is_left_out, is_needed, takes_all, last_takes_all, value_at, goes_past, is_given, needed_stand, numbers_fit};
@@ -11,6 +10,7 @@ use crate::argument::Argument;
 use crate::arguments::Arguments;
 use crate::convert::converted;
 use crate::fault::{CallFault, left_out};
+use crate::left_out::is_among;
 use crate::objects::Objects;
 use crate::signature::{Kind, Others, Parameter, Signature, Takes};
 use py_heap::{Heap, Value};
@@ -47,7 +47,7 @@ fn arguments(
         IfOk result (λ bound. arguments_by heap.now objects.now given (map parameter_of parameters.now) ≡ Ok bound) }
     ensures fault { let given = arguments_of args.now in
         IfErr result (λ e. e ≢ CallFault.Memory →
-            arguments_by heap.now objects.now given (map parameter_of parameters.now) ≡ Err e) }
+        arguments_by heap.now objects.now given (map parameter_of parameters.now) ≡ Err e) }
 {
     let mut arguments = Arguments::new(heap.allocator());
     for (place, parameter) in parameters.iter().enumerate() {
@@ -108,12 +108,6 @@ fn is_left_out(signature: &Signature, name: &str) -> bool
     ensures { result ≡ is_left_out signature.now name.now }
 {
     is_among(signature.left_out, name)
-}
-
-fn is_among(names: &[&str], name: &str) -> bool
-    ensures { result ≡ list_any (λ n. bytes_eq n.now name.now) names.now }
-{
-    names.iter().any(|other| *other == name)
 }
 
 /// The place of the parameter of a name.
@@ -207,7 +201,7 @@ fn argument(
         IfOk result (λ a. argument_by heap.now objects.now given (place, parameter_of parameter.now) ≡ Ok a) }
     ensures fault { let given = arguments_of args.now in
         IfErr result (λ e. e ≢ CallFault.Memory →
-            argument_by heap.now objects.now given (place, parameter_of parameter.now) ≡ Err e) }
+        argument_by heap.now objects.now given (place, parameter_of parameter.now) ≡ Err e) }
 {
     let positional = args.positional.as_slice();
     if takes_all(parameter.2) && place < positional.len() {

@@ -10,7 +10,9 @@ use crate::exports::put_named;
 use crate::fault::CallFault;
 use crate::name::{Builds, Environs, Name, Says, Shares, Tells};
 use crate::objects::Objects;
-use crate::parts::{any, exports, flag, mode, nodes, nodes_in, pairs, place, place_if, text, texts};
+use crate::parts::{
+    any, exports, flag, mode, nodes, nodes_in, pairs, place, place_if, text, texts,
+};
 use crate::request::{Request, ScriptFiles, Shared, Valued};
 use crate::signatures::{own_builder_signature, signature};
 use crate::variables_given::variables;
@@ -55,7 +57,12 @@ pub fn own_request_of(
     let signature = own_builder_signature();
     let mut arguments = bound(heap, objects, &signature, args)?;
     let variables = variables(heap, objects, &signature, &args.named)?;
-    built(heap.allocator(), Maker::Own(name.copy()?), &mut arguments, variables)
+    built(
+        heap.allocator(),
+        Maker::Own(name.copy()?),
+        &mut arguments,
+        variables,
+    )
 }
 
 fn asked(

@@ -159,12 +159,7 @@ fn push_pair(
 }
 
 /// A pair of a dict.
-fn pair(
-    heap: &Heap,
-    objects: &Objects,
-    key: Value,
-    value: Value,
-) -> Result<(Text, Item), CallFault>
+fn pair(heap: &Heap, objects: &Objects, key: Value, value: Value) -> Result<(Text, Item), CallFault>
     ensures ok { IfOk result (λ p. pair_by heap.now objects.now (key, value) ≡ Ok p) }
     ensures fault { IfErr result (λ e. e ≢ CallFault.Memory → pair_by heap.now objects.now (key, value) ≡ Err e) }
 {

@@ -98,6 +98,8 @@ fn put_variable(
         return Ok(());
     }
     let value = variable_of(heap, objects, name, value)?;
-    variables.values.push((Text::of(heap.allocator(), name)?, value))?;
+    variables
+        .values
+        .push((Text::of(heap.allocator(), name)?, value))?;
     Ok(())
 }

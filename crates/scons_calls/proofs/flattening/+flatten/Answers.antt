@@ -18,7 +18,7 @@ returns-then-flat-eq0-clause-fault t c = λ ne.
     let room : c.loop-value.flat.room ≡ 0 = sym (ap (λ f. f.room) c.flat.view_is) ∙ c.if-flat-eq0.true in
     let full : (c.loop-value.flat.room == 0) ≡ true = ap (λ (n : ℕ). n == 0) room in
     along_stop (step h (inside h c.args.levels)) c.args.values.now c.loop-value.value-index c.loop-value.flat x fault.Arguments _ (slice_get-get_or c.args.values.now c.loop-value.value-index v.Nil c.loop-value-test.true)
-        (full_step h (inside h c.args.levels) c.loop-value.flat x full) (c.loop-value.invariant ∙ flat_whole h c.args.levels c.args.flat.now c.args.values.now)
+    (full_step h (inside h c.args.levels) c.loop-value.flat x full) (c.loop-value.invariant ∙ flat_whole h c.args.levels c.args.flat.now c.args.values.now)
 
 pub returns-then-levels-eq0-clause-fault : goal.returns-then-levels-eq0-clause-fault
 returns-then-levels-eq0-clause-fault t c = λ ne.
@@ -28,8 +28,8 @@ returns-then-levels-eq0-clause-fault t c = λ ne.
     let some : Some c.in-Some.inner.now ≡ items_of h x = rw c.in-Some.is at c.items_of.ensures in
     let left : (c.loop-value.flat.room == 0) ≡ false = grind (arith, nat_tests, same, c.if-flat-eq0.false) in
     along_stop (step h (inside h c.args.levels)) c.args.values.now c.loop-value.value-index c.loop-value.flat x fault.Arguments _ (slice_get-get_or c.args.values.now c.loop-value.value-index v.Nil c.loop-value-test.true)
-        (list_step h (inside h c.args.levels) c.loop-value.flat x c.in-Some.inner.now (Err fault.Arguments) left (sym some) (inside_none h c.args.levels (flat_with (c.loop-value.flat.room - 1) c.loop-value.flat.items) c.in-Some.inner.now c.if-levels-eq0.true))
-        (c.loop-value.invariant ∙ flat_whole h c.args.levels c.args.flat.now c.args.values.now)
+    (list_step h (inside h c.args.levels) c.loop-value.flat x c.in-Some.inner.now (Err fault.Arguments) left (sym some) (inside_none h c.args.levels (flat_with (c.loop-value.flat.room - 1) c.loop-value.flat.items) c.in-Some.inner.now c.if-levels-eq0.true))
+    (c.loop-value.invariant ∙ flat_whole h c.args.levels c.args.flat.now c.args.values.now)
 
 pub returns-in_err-flatten-in-Some-clause-fault : goal.returns-in_err-flatten-in-Some-clause-fault
 returns-in_err-flatten-in-Some-clause-fault t c =
@@ -40,9 +40,9 @@ returns-in_err-flatten-in-Some-clause-fault t c =
     let some : Some c.in-Some.inner.now ≡ items_of h x = rw c.in-Some.is at c.items_of.ensures in
     let left : (c.loop-value.flat.room == 0) ≡ false = grind (arith, nat_tests, same, c.if-flat-eq0.false) in
     let stop : c.in_err-flatten-in-Some.field-0.0 ≢ fault.Memory → flat_by h c.args.levels c.args.flat.now c.args.values.now ≡ Err c.in_err-flatten-in-Some.field-0.0 = λ ne.
-        let made : flat_by h (c.args.levels - 1) (flat_with (c.flat.inside.room - 1) c.flat.inside.items.items) c.in-Some.inner.now ≡ Err c.in_err-flatten-in-Some.field-0.0 = c.in_err-flatten-in-Some.ensures.fault ne in
-        let at : flat_by h (c.args.levels - 1) (flat_with (c.loop-value.flat.room - 1) c.loop-value.flat.items) c.in-Some.inner.now ≡ Err c.in_err-flatten-in-Some.field-0.0 = ap (λ f. flat_by h (c.args.levels - 1) (flat_with (f.room - 1) f.items) c.in-Some.inner.now) (sym seen) ∙ made in
-        along_stop (step h (inside h c.args.levels)) c.args.values.now c.loop-value.value-index c.loop-value.flat x c.in_err-flatten-in-Some.field-0.0 _ (slice_get-get_or c.args.values.now c.loop-value.value-index v.Nil c.loop-value-test.true)
-            (list_step h (inside h c.args.levels) c.loop-value.flat x c.in-Some.inner.now (Err c.in_err-flatten-in-Some.field-0.0) left (sym some) (inside_below h c.args.levels (flat_with (c.loop-value.flat.room - 1) c.loop-value.flat.items) c.in-Some.inner.now _ c.if-levels-eq0.false at))
-            (c.loop-value.invariant ∙ flat_whole h c.args.levels c.args.flat.now c.args.values.now) in
+    let made : flat_by h (c.args.levels - 1) (flat_with (c.flat.inside.room - 1) c.flat.inside.items.items) c.in-Some.inner.now ≡ Err c.in_err-flatten-in-Some.field-0.0 = c.in_err-flatten-in-Some.ensures.fault ne in
+    let at : flat_by h (c.args.levels - 1) (flat_with (c.loop-value.flat.room - 1) c.loop-value.flat.items) c.in-Some.inner.now ≡ Err c.in_err-flatten-in-Some.field-0.0 = ap (λ f. flat_by h (c.args.levels - 1) (flat_with (f.room - 1) f.items) c.in-Some.inner.now) (sym seen) ∙ made in
+    along_stop (step h (inside h c.args.levels)) c.args.values.now c.loop-value.value-index c.loop-value.flat x c.in_err-flatten-in-Some.field-0.0 _ (slice_get-get_or c.args.values.now c.loop-value.value-index v.Nil c.loop-value-test.true)
+    (list_step h (inside h c.args.levels) c.loop-value.flat x c.in-Some.inner.now (Err c.in_err-flatten-in-Some.field-0.0) left (sym some) (inside_below h c.args.levels (flat_with (c.loop-value.flat.room - 1) c.loop-value.flat.items) c.in-Some.inner.now _ c.if-levels-eq0.false at))
+    (c.loop-value.invariant ∙ flat_whole h c.args.levels c.args.flat.now c.args.values.now) in
     search rules

@@ -9,5 +9,5 @@ pub returns-in_err-take_up-clause-fault : goal.returns-in_err-take_up-clause-fau
 returns-in_err-take_up-clause-fault c =
     let at : Some (c.in-Some.name.now, c.in-Some.value) ≡ slice_get c.args.named.now c.names.at = rw c.in-Some.is at c.at.ensures in
     let stop : c.in_err-take_up.field-0.0 ≢ fault.Memory → all_variables c.args.heap.now c.args.objects.now c.args.signature.now c.args.named.now ≡ Err c.in_err-take_up.field-0.0 =
-        λ ne. along_stop (one_variable c.args.heap.now c.args.objects.now c.args.signature.now) c.args.named.now c.names.at c.names.variables (c.in-Some.name.now, c.in-Some.value) c.in_err-take_up.field-0.0 _ (sym at) (c.in_err-take_up.ensures.fault ne) c.names.invariant in
+    λ ne. along_stop (one_variable c.args.heap.now c.args.objects.now c.args.signature.now) c.args.named.now c.names.at c.names.variables (c.in-Some.name.now, c.in-Some.value) c.in_err-take_up.field-0.0 _ (sym at) (c.in_err-take_up.ensures.fault ne) c.names.invariant in
     search rules
