@@ -1,5 +1,5 @@
 -- What flattening comes to, level by level and value by value.
-use Rattle.std.proofs.Common.{arith, cond, true, false, ◌||◌, ◌==◌, ◌≡◌, ◌≢◌, ◌-◌, ◌+◌, ◌∙◌, ℕ, zero, suc, Bool, List, [], ◌∷◌, ◌++◌, Option, Some, None, Result, Ok, Err, refl, ap, sym, append_assoc, append-nil, length, length-append}
+use Rattle.std.proofs.Common.{arith, true, false, ◌||◌, ◌==◌, ◌≡◌, ◌-◌, ◌+◌, ◌∙◌, ℕ, zero, suc, Bool, List, [], ◌∷◌, ◌++◌, Option, Some, None, Result, Ok, Err, refl, ap, sym, append_assoc, append-nil, length, length-append}
 use Rattle.std.specs.Prelude.{nat_lt, flat_map, is_some, if◌then◌else◌}
 use Rattle.std.specs.Option.{option_map_or}
 use Rattle.std.specs.List.{list_any}

@@ -1,9 +1,8 @@
 -- Each name of scripts has its object once the names are there.
-use Rattle.std.proofs.Common.{arith, true, false, not, cond, ◌||◌, ◌≡◌, ◌<◌, ◌+◌, ◌∙◌, Result, Ok, Err, OnOk, ℕ, zero, suc, Bool, List, [], ◌∷◌, ◌++◌, Option, Some, None, refl, ap, sym, true≢false, length, map, inl, inr}
-use Rattle.std.specs.Prelude.{nat_eq, nat_lt, position, IsSome, if◌then◌else◌}
-use Rattle.std.specs.Prelude.{codes}
+use Rattle.std.proofs.Common.{arith, true, false, cond, ◌||◌, ◌≡◌, ◌<◌, ◌+◌, ◌∙◌, Result, Ok, Err, OnOk, ℕ, zero, suc, Bool, List, [], ◌∷◌, ◌++◌, Option, Some, None, refl, ap, sym, true≢false, length, inl, inr}
+use Rattle.std.specs.Prelude.{nat_lt, position, IsSome, if◌then◌else◌}
 use Rattle.std.specs.Option.{option_and_then}
-use Rattle.std.specs.List.{list_any, position_or_len, range_with_len}
+use Rattle.std.specs.List.{list_any, position_or_len}
 use Rattle.std.specs.Cmp.{unsigned_Decides}
 use Rattle.std.proofs.lemmas.Bool.Decides.{nat_tests, eqb_tells}
 use Rattle.std.proofs.lemmas.List.Folds.{list_any-append}

@@ -1,6 +1,6 @@
 -- Lists and tuples that nest, as one flat list: `Flatten` of SCons's Util, with two limits that are own: on the levels, and on
 -- how many values are met, lists and tuples among them.
-use Rattle.std.specs.Prelude.{ℕ, zero, suc, Bool, ◌||◌, ◌-◌, nat_lt, List, [], ◌∷◌, ◌++◌, Option, Some, None, Result, Ok, Err, is_some, length, flat_map, if◌then◌else◌}
+use Rattle.std.specs.Prelude.{ℕ, zero, suc, Bool, ◌||◌, ◌-◌, nat_lt, List, [], ◌∷◌, ◌++◌, Result, Ok, Err, is_some, length, flat_map, if◌then◌else◌}
 use Rattle.std.specs.Option.{option_map_or}
 use Rattle.std.specs.List.{list_any}
 use Rattle.scons_base.specs.declared.limits.TheConstants.{LIST_LIMIT, NESTING_LIMIT}

@@ -4,7 +4,6 @@ use Rattle.std.specs.List.{list_any, position_or_len, range_with_len}
 use Rattle.std.specs.Option.{option_and_then}
 use Rattle.std.specs.Cmp.Lexicographic.{pointwise}
 use Rattle.indexmap.specs.IndexSet.{insert_key, insert_all}
-use Rattle.scons_calls.specs.declared.name.NameId.{NameId}
 use Rattle.scons_calls.specs.declared.thing.Thing.{Thing}
 use Rattle.scons_calls.specs.declared.thing.Thing.TheVariants as thing
 use Rattle.scons_calls.specs.Names.{name_alone, names_table}

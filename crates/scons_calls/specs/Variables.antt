@@ -1,5 +1,5 @@
 -- What a value is as that of a construction variable.
-use Rattle.std.specs.Prelude.{ℕ, Bool, true, false, List, [], ◌∷◌, Option, Some, None, Result, Ok, Err, codes, slice_get, if◌then◌else◌}
+use Rattle.std.specs.Prelude.{ℕ, Bool, true, false, List, [], ◌∷◌, Option, Some, None, Result, Ok, Err, codes, slice_get}
 use Rattle.std.specs.Str.{bytes_eq}
 use Rattle.env_vars.specs.declared.value.EnvValue.{EnvValue}
 use Rattle.env_vars.specs.declared.value.EnvValue.TheVariants as value

@@ -5,7 +5,7 @@ ghost use Rattle.std.specs.Str.{bytes_eq};
 ghost use Rattle.scons_calls.specs.LeftOut.{is_name_left_out, is_attribute_left_out, attributes_left_out};
 
 /// What SCons has among the names of scripts, in the order of its manual; behind it what the manual doesn't tell of.
-const OF_SCRIPTS: &[&str] = &[
+const OF_SCRIPTS: [&str; 131] = [
     // Builders.
     "CFile",
     "CXXFile",
@@ -147,7 +147,7 @@ const OF_SCRIPTS: &[&str] = &[
 ];
 
 /// What SCons has among the attributes of environments beside those names.
-const OF_ENVIRONMENTS: &[&str] = &[
+const OF_ENVIRONMENTS: [&str; 35] = [
     "CopyAs",
     "CopyTo",
     "Export",
@@ -189,7 +189,7 @@ const OF_ENVIRONMENTS: &[&str] = &[
 pub fn is_left_out(text: &str) -> bool
     ensures { result ≡ is_name_left_out text.now }
 {
-    is_among(OF_SCRIPTS, text)
+    is_among(&OF_SCRIPTS, text)
 }
 
 /// Whether environments of SCons have an attribute that is left out here.
@@ -202,7 +202,7 @@ pub fn is_left_out_of_environments(text: &str) -> bool
 fn is_attribute(text: &str) -> bool
     ensures { result ≡ list_any (λ n. bytes_eq n text.now) attributes_left_out }
 {
-    is_among(OF_ENVIRONMENTS, text)
+    is_among(&OF_ENVIRONMENTS, text)
 }
 
 /// Whether a name is one of some.

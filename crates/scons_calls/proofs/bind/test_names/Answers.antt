@@ -1,4 +1,4 @@
-use Rattle.std.proofs.Common.{◌≡◌, ◌∙◌, sym, ap, Some, None, length}
+use Rattle.std.proofs.Common.{◌≡◌, sym, ap, Some, None, length}
 use Rattle.std.specs.Prelude.{slice_get}
 use Rattle.scons_calls.specs.Binding.{name_fits}
 use Rattle.scons_calls.proofs.Loops.{along_more, along_none}

@@ -1,4 +1,4 @@
-use Rattle.std.proofs.Common.{◌≡◌, ◌∙◌, sym, get_or}
+use Rattle.std.proofs.Common.{◌∙◌, sym, get_or}
 use Rattle.py_host.specs.Calls.{arguments_of}
 use Rattle.scons_calls.proofs.Loops.{no_row, own_read, given_more, given_stop}
 use Rattle.scons_calls.proofs.bind.test_needed.Goals as goal

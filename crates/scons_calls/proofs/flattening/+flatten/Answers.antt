@@ -1,11 +1,10 @@
-use Rattle.std.proofs.Common.{rules, arith, true, false, zero, ◌≡◌, ◌≢◌, ◌==◌, ◌∙◌, ◌-◌, ℕ, List, Some, Err, ap, sym, suc, length, get_or, refl}
+use Rattle.std.proofs.Common.{rules, arith, true, false, ◌≡◌, ◌≢◌, ◌==◌, ◌∙◌, ◌-◌, ℕ, Some, Err, ap, sym, get_or}
 use Rattle.std.proofs.lemmas.Bool.Decides.{nat_tests}
 use Rattle.std.proofs.lemmas.Option.{slice_get-get_or}
 use Rattle.py_heap.specs.declared.value.Value.{Value}
 use Rattle.py_heap.specs.declared.value.Value.TheVariants as v
 use Rattle.py_heap.specs.Heap.{items_of}
 use Rattle.scons_calls.specs.declared.fault.CallFault.TheVariants as fault
-use Rattle.scons_calls.specs.Results.{along}
 use Rattle.scons_calls.specs.Flattening.{flat_by}
 use Rattle.scons_calls.proofs.Flats.{flat_whole, step, inside, full_step, list_step, flat_with, inside_below, inside_none}
 use Rattle.scons_calls.proofs.Loops.{along_stop}

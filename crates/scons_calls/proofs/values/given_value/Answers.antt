@@ -1,4 +1,3 @@
-use Rattle.std.proofs.Common.{◌≡◌}
 use Rattle.scons_calls.proofs.Numbering.{file_ok, file_fault, dir_ok, dir_fault, alias_ok, alias_fault}
 use Rattle.py_heap.specs.declared.fault.ValueFault.TheVariants as fault
 use Rattle.scons_calls.proofs.values.given_value.Goals as goal
