@@ -19,5 +19,6 @@ mod Printing
 mod Removing
 mod Serving
 mod Telling
+mod Digests
 mod Listing
 mod Treeing

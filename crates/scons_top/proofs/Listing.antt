@@ -13,19 +13,20 @@ use Rattle.sign_store.specs.Tables.{Map}
 use Rattle.build_files.specs.Dueness.{HaveOwnDigests}
 use Rattle.scons_report.specs.Dry.{ListsDry}
 use Rattle.scons_top.proofs.Building.{around_asked}
+use Rattle.scons_top.proofs.Digests.{banks_own_digests}
 
 -- a list that was made once the store was read
 pub lists_found : {W : Type 0} (m : Meaning W) (g h : RuleGraph) (hash : Hash) (kept : Map) (nodes asked : List NodeId) (rules slice : List RuleId) (old read new : W)
     → Looks m old read → (m.tells new → m.tells read) → (m.tells old → (m.around old).running ≡ []) → (m.tells read → kept ≡ image_in (m.seen old))
     → nodes ≡ asked → are_below (length g.nodes) nodes ≡ true → slice ≡ rules
     → (m.tells new → (m.around read).running ≡ [] → are_below (length g.nodes) nodes ≡ true → HaveOwnDigests kept → ListsDry g h hash kept (m.around read) nodes rules)
-    → m.tells new → HaveOwnDigests (image_in (m.seen old)) → ListsDry g h hash (image_in (m.seen old)) (m.around old) asked slice
-lists_found m g h hash kept nodes asked rules slice old read new looks told idle map is below same lists t own =
+    → m.tells new → ListsDry g h hash (image_in (m.seen old)) (m.around old) asked slice
+lists_found m g h hash kept nodes asked rules slice old read new looks told idle map is below same lists t =
     let here = told t in
     let rests = idle (looks.told.told here) in
     let around = around_asked (m.around old) (m.around read) rests (looks.around here) in
     let records = map here in
-    let digests = subst (λ (x : Map). HaveOwnDigests x) (sym records) own in
+    let digests = subst (λ (x : Map). HaveOwnDigests x) (sym records) (banks_own_digests (m.seen old)) in
     let one = lists t (ap (λ (x : Around). x.running) around ∙ rests) below digests in
     let two = subst (λ (x : Around). ListsDry g h hash kept x nodes rules) around one in
     let three = subst (λ (x : Map). ListsDry g h hash x (m.around old) nodes rules) records two in

@@ -22,7 +22,6 @@ use Rattle.build_run.specs.Output.{BuildPrints, HasRunPrinting}
 use Rattle.build_run.specs.declared.end.BuildEnd.{BuildEnd}
 use Rattle.scons_words.specs.declared.words.Words.{Words}
 use Rattle.scons_report.specs.Cleaning.{IsCleanList, rules_numbered}
-use Rattle.build_files.specs.Dueness.{HaveOwnDigests}
 use Rattle.scons_report.specs.Dry.{ListsDry}
 use Rattle.scons_top.specs.Cleaned.{targets_of}
 use Rattle.scons_top.specs.Builds.{BeginsStore, wanted_by}
@@ -330,11 +329,10 @@ module _ {W : Type 0} (m : Meaning W) (said : Words) (g : RuleGraph) (requests :
   list_looked text h = record {
     grown = h.grown;
     rules = h.rules;
-    lists = λ t own.
+    lists = λ t.
         let is = same t in
         let nodes = nodes_asked requests in
-        let found = h.lists t (subst (λ (map : Map). HaveOwnDigests map) (sym is.1) own) in
-        let one = subst (λ (x : Around). ListsDry g h.grown said.hash (image_in (m.seen b)) x nodes h.rules) is.0 found in
+        let one = subst (λ (x : Around). ListsDry g h.grown said.hash (image_in (m.seen b)) x nodes h.rules) is.0 (h.lists t) in
         subst (λ (map : Map). ListsDry g h.grown said.hash map (m.around a) nodes h.rules) is.1 one;
     whole = h.whole;
   }
@@ -555,7 +553,7 @@ module _ {W O : Type 0} (m : Meaning W) (p : SinkMeaning O) (said : Words) (g : 
 
   pub serve_listed : (grown : RuleGraph) (rules : List RuleId) (r : Result Report Stop) → IfOk r (λ report. report.faults ≡ []) → Printed p out between (progress said building_text)
       → PrintsUpTo p (list_text said grown requests rules) between after r
-      → (m.tells new → HaveOwnDigests (image_in (m.seen old)) → ListsDry g grown said.hash (image_in (m.seen old)) (m.around old) (nodes_asked requests) rules) → ServePrints m p said step.Listing g requests old out new after r
+      → (m.tells new → ListsDry g grown said.hash (image_in (m.seen old)) (m.around old) (nodes_asked requests) rules) → ServePrints m p said step.Listing g requests old out new after r
   serve_listed grown rules (Ok report) none one h lists =
       let text = progress said building_text ++ list_text said grown requests rules in
       such_whole p (Unit {0}) (IsServedText m p said step.Listing g requests old new (Ok report)) (IsCutShort report) out after text

@@ -13,7 +13,6 @@ use Rattle.sign_store.specs.Tables.{Map}
 use Rattle.report_texts.specs.Texts.{reading_text, building_text, cleaned_text, cleaning_text, help_text, load_text}
 use Rattle.world_api.specs.Around.{Around}
 use Rattle.scons_report.specs.Cleaning.{IsCleanList, rules_numbered}
-use Rattle.build_files.specs.Dueness.{HaveOwnDigests}
 use Rattle.scons_report.specs.Dry.{ListsDry}
 use Rattle.build_run.specs.Output.{HasRunPrinting}
 use Rattle.build_run.specs.declared.end.BuildEnd.{BuildEnd}
@@ -89,12 +88,12 @@ IsBuildingText m p said g requests old new (Err s) text = IsCutBy s × (text ≡
 
 -- Behind that line a list has the lines of its rules, all of each and in their order, and the ending: of each rule that is listed as
 -- if it were started. In a world that tells these are just the rules that a dry run lists over the files and records that the run had
--- found, where each digest of a record was made by its own function.
+-- found.
 pub record IsListText {W : Type 0} (m : Meaning W) (said : Words) (g : RuleGraph) (requests : List Request) (old new : W) (text : List ℕ) : Type 0 where
   -- the graph as it grew by copies
   pub grown : RuleGraph
   pub rules : List RuleId
-  pub lists : m.tells new → HaveOwnDigests (image_in (m.seen old)) → ListsDry g grown said.hash (image_in (m.seen old)) (m.around old) (nodes_asked requests) rules
+  pub lists : m.tells new → ListsDry g grown said.hash (image_in (m.seen old)) (m.around old) (nodes_asked requests) rules
   pub whole : text ≡ progress said building_text ++ list_text said grown requests rules
 
 -- or the last line alone, where a fault of the graph or of the files came
