@@ -6,3 +6,7 @@ pub mod Walking
 pub mod Seeing
 pub mod Leaving
 pub mod Telling
+pub mod Acting
+pub mod Stepping
+pub mod Written
+pub mod LibraryNames

@@ -1,8 +1,12 @@
 //! One declared rule, put into the graph.
 ghost use Rattle.std.specs.Prelude.{◌≡◌, ◌≢◌, ◌<◌, ℕ, Ok, Err, length, IfOk, IfErr, OnOk};
 ghost use Rattle.rule_graph.specs.Rules.{IsRule};
+ghost use Rattle.scons_rules.specs.Expanding.{expanding};
+ghost use Rattle.scons_rules.specs.Making as spec;
 ghost use Rattle.scons_rules.specs.Nodes.{AreNodes, AreNamed, all_interned, lists_of};
 ghost use Rattle.scons_rules.specs.PathRules.{by_paths, rules_in, with_rule};
+ghost use Rattle.scons_rules.specs.PathGraphs.{graph_by};
+ghost use Rattle.scons_rules.specs.Ruling.{added};
 
 use crate::fault::RuleReadFault;
 use crate::interning::{named_nodes, nodes_of};
@@ -47,7 +51,9 @@ impl RuleReading {
         number: usize,
         locals: &RuleLocals,
         libraries: &Paths,
-    ) -> Result<(), RuleReadFault> {
+    ) -> Result<(), RuleReadFault>
+        ensures rest { self.new.declared ≡ self.old.declared }
+    {
         let Some(rule) = OneRule::at(self.alloc, &self.state, number, &locals.locals) else {
             return Ok(());
         };
@@ -65,6 +71,7 @@ fn add_rule(
     said: &OfRule,
     libraries: &Paths,
 ) -> Result<(), RuleReadFault> {
+    graph.laws();
     let making = making_of(rule)?;
     let paths = rule_paths(rule, libraries, said)?;
     let nodes = rule_nodes(rule.alloc, graph, &paths)?;
@@ -77,7 +84,8 @@ fn rule_paths<'a>(
     libraries: &'a Paths,
     said: &OfRule,
 ) -> Result<RulePaths<'a>, Memory>
-    ensures { IfOk result (λ p. p.targets.now ≡ rule.now.declared.now.targets) }
+    ensures lists { IfOk result (λ p. lists_of p ≡ spec.lists_by (expanding rule.now) said.now libraries.now) }
+    ensures targets { IfOk result (λ p. p.targets.now ≡ rule.now.declared.now.targets) }
 {
     let depends = all_settled(rule.alloc, rule.state, said.depends.as_slice())?;
     let required = all_settled(rule.alloc, rule.state, said.required.as_slice())?;
@@ -137,7 +145,8 @@ fn put(graph: &mut Graph, rule: Rule) -> Result<(), RuleReadFault>
 
 /// A rule of these nodes, made so.
 fn rule_of(rule: &OneRule<'_>, making: Making, nodes: RuleNodes, always: bool) -> Rule
-    ensures { (count : ℕ) → AreNodes count nodes → IsRule count result }
+    ensures valid { (count : ℕ) → AreNodes count nodes → IsRule count result }
+    ensures of { result ≡ spec.rule_with (expanding rule.now) making nodes always }
 {
     let work = rule.work();
     Rule {

@@ -1,4 +1,8 @@
 //! The libraries that a program names.
+ghost use Rattle.std.specs.Prelude.{◌≡◌, ◌≢◌, ◌++◌, ◌∷◌, [], Ok, Err, None, IfOk, IfErr, OnOk, MatchResult, map};
+ghost use Rattle.scons_decls.specs.State.{declared_of};
+ghost use Rattle.scons_rules.specs.Expanding.{expanding};
+ghost use Rattle.scons_rules.specs.Libraries as spec;
 
 use crate::fault::RuleReadFault;
 use crate::one_rule::OneRule;
@@ -58,7 +62,12 @@ fn wanted_one(
 }
 
 /// A library that is named by its file, which stands in the line.
-fn library_file(rule: &OneRule<'_>, path: &PathText) -> Result<Wanted, RuleReadFault> {
+fn library_file(rule: &OneRule<'_>, path: &PathText) -> Result<Wanted, RuleReadFault>
+    ensures ok { IfOk result (λ w. (f : spec.Files)
+        → spec.library_file (declared_of rule.now.state.now) path.now ≡ Ok (spec.found_in f w)) }
+    ensures fault { IfErr result (λ e. e ≢ RuleReadFault.Memory
+        → spec.library_file (declared_of rule.now.state.now) path.now ≡ Err e) }
+{
     let file = settled(rule.state, path)?;
     refuse_path_for_shell(&file)?;
     Ok(Wanted {
@@ -68,13 +77,19 @@ fn library_file(rule: &OneRule<'_>, path: &PathText) -> Result<Wanted, RuleReadF
 }
 
 /// The name of a library's file: prefix, name and suffix.
-fn file_name(rule: &OneRule<'_>, name: &Text) -> Result<Text, RuleReadFault> {
+fn file_name(rule: &OneRule<'_>, name: &Text) -> Result<Text, RuleReadFault>
+    ensures ok { IfOk result (λ t. spec.file_name (expanding rule.now) name.now ≡ Ok t) }
+    ensures fault { IfErr result (λ e. e ≢ RuleReadFault.Memory
+        → spec.file_name (expanding rule.now) name.now ≡ Err e) }
+{
     let prefix = rule.text("$LIBPREFIX")?;
     let suffix = rule.text("$LIBSUFFIX")?;
     Ok(joined(prefix, name, &suffix)?)
 }
 
-fn joined(prefix: Text, name: &Text, suffix: &Text) -> Result<Text, Memory> {
+fn joined(prefix: Text, name: &Text, suffix: &Text) -> Result<Text, Memory>
+    ensures { IfOk result (λ t. t ≡ prefix ++ name.now ++ suffix.now) }
+{
     let mut text = prefix.into_string();
     text.push_str(name.as_str())?;
     text.push_str(suffix.as_str())?;
@@ -109,7 +124,9 @@ fn place_in(
     state: &Declarations,
     dir: &PathText,
     file: &str,
-) -> Result<Option<PathText>, Memory> {
+) -> Result<Option<PathText>, Memory>
+    ensures { IfOk result (λ p. p ≡ spec.place_in (declared_of state.now) file.now dir.now) }
+{
     match PathText::resolve(alloc, &state.locals.top, dir, file) {
         Ok(path) => Ok(Some(path)),
         Err(PathFault::Memory) => Err(Memory),
@@ -134,7 +151,9 @@ fn ask(state: &Declarations, wanted: &mut Wanted, path: PathText) -> Result<(), 
 }
 
 /// The source that would be copied to a path, in a variant directory with copies.
-fn copied_from(state: &Declarations, path: &PathText) -> Result<Option<PathText>, Memory> {
+fn copied_from(state: &Declarations, path: &PathText) -> Result<Option<PathText>, Memory>
+    ensures { IfOk result (λ p. p ≡ spec.copied_from (declared_of state.now) path.now) }
+{
     if !is_copied(state, path) {
         return Ok(None);
     }
