@@ -10,3 +10,7 @@ pub mod Acting
 pub mod Stepping
 pub mod Written
 pub mod LibraryNames
+pub mod Ordering
+pub mod Growing
+pub mod Finding
+pub mod Ruled

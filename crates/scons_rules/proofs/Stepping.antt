@@ -1,5 +1,5 @@
 -- Steps over a list, by what is left of it.
-use Rattle.std.proofs.Common.{arith, ◌≡◌, ◌<◌, ◌+◌, ℕ, List, [], ◌∷◌, ◌++◌, ap, refl, sym, ◌∙◌, length, map, drop, get_or, add-one, append_assoc, drop-cons}
+use Rattle.std.proofs.Common.{arith, ◌≡◌, ◌<◌, ◌≤◌, ◌+◌, ℕ, zero, suc, List, [], ◌∷◌, ◌++◌, ap, refl, sym, ◌∙◌, length, map, drop, get_or, add-one, append_assoc, append-nil, drop-cons}
 use Rattle.std.specs.Prelude.{Result, Ok, Err, fold}
 use Rattle.std.proofs.lemmas.List.{length-map, get_or-map}
 use Rattle.scons_rules.specs.Steps.{and_then, each, all_of, in_turn}
@@ -11,6 +11,12 @@ behind done (Err e) = Err e
 
 pub drop_next : {X : Type 0} (xs : List X) (i : ℕ) (d : X) → i < length xs → drop i xs ≡ get_or xs i d ∷ drop (i + 1) xs
 drop_next xs i d l = rw add-one (drop-cons xs i d l)
+
+nothing_behind : {X : Type 0} (xs : List X) (k : ℕ) → length xs ≤ k → drop k xs ≡ []
+nothing_behind [] zero l = refl
+nothing_behind [] (suc k) l = refl
+nothing_behind (x ∷ xs) zero l = absurd (omega arith)
+nothing_behind (x ∷ xs) (suc k) l = nothing_behind xs k (omega arith)
 
 -- the same where what the items stand for is gone over
 pub mapped_at : {X Z : Type 0} (v : X → Z) (xs : List X) (i : ℕ) (d : X) → i < length xs → drop i (map v xs) ≡ v (get_or xs i d) ∷ drop (i + 1) (map v xs)
@@ -28,6 +34,10 @@ module _ {X Y E : Type 0} (f : X → Result Y E) where
   each_step xs i d ys y r l left one =
       let all : behind ys (and_then (f (get_or xs i d)) (λ z. and_then (each f (drop (i + 1) xs)) (λ zs. Ok (z ∷ zs)))) ≡ r = rw (drop_next xs i d l) at left in
       one_behind ys y (each f (drop (i + 1) xs)) ∙ (rw one at all)
+
+  -- no item is left
+  pub each_all : (xs : List X) (i : ℕ) (ys : List Y) (r : Result (List Y) E) → length xs ≤ i → behind ys (each f (drop i xs)) ≡ r → r ≡ Ok ys
+  each_all xs i ys r l left = sym left ∙ rw (nothing_behind xs i l) (ap Ok (append-nil ys))
 
   -- an item at which it ends
   pub each_stop : (xs : List X) (i : ℕ) (d : X) (ys : List Y) (e : E) (r : Result (List Y) E) → i < length xs

@@ -119,7 +119,12 @@ impl RuleReading {
         &self,
         number: usize,
         locals: &RuleLocals,
-    ) -> Result<Listing<Wanted>, RuleReadFault> {
+    ) -> Result<Listing<Wanted>, RuleReadFault>
+        ensures ok { IfOk result (λ w. (f : Files)
+            → libraries_of f self.now.declared number locals.now ≡ Ok (map (found_in f) w)) }
+        ensures fault { IfErr result (λ e. e ≢ RuleReadFault.Memory → (f : Files)
+            → libraries_of f self.now.declared number locals.now ≡ Err e) }
+    {
         match OneRule::at(self.alloc, &self.state, number, &locals.locals) {
             Some(rule) => wanted_of(&rule),
             None => Ok(Listing::empty(self.alloc)),
@@ -127,7 +132,11 @@ impl RuleReading {
     }
 }
 
-fn wanted_of(rule: &OneRule<'_>) -> Result<Listing<Wanted>, RuleReadFault> {
+fn wanted_of(rule: &OneRule<'_>) -> Result<Listing<Wanted>, RuleReadFault>
+    ensures ok { IfOk result (λ w. (f : Files) → program_libraries f (expanding rule.now) ≡ Ok (map (found_in f) w)) }
+    ensures fault { IfErr result (λ e. e ≢ RuleReadFault.Memory → (f : Files)
+        → program_libraries f (expanding rule.now) ≡ Err e) }
+{
     match rule.declared.recipe {
         Recipe::Program => wanted_by(rule),
         _ => Ok(Listing::empty(rule.alloc)),
