@@ -6,3 +6,11 @@ pub mod Walking
 pub mod Seeing
 pub mod Leaving
 pub mod Telling
+pub mod Acting
+pub mod Stepping
+pub mod Written
+pub mod LibraryNames
+pub mod Ordering
+pub mod Growing
+pub mod Finding
+pub mod Ruled

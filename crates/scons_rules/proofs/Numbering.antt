@@ -53,10 +53,10 @@ self_same p = (bytes_eq-Decides p p).1 refl
 
 -- what one path more leaves
 
-there : (nodes : List (List ℕ)) (p : List ℕ) → list_any (bytes_eq p) nodes ≡ true → with_path nodes p ≡ nodes
+pub there : (nodes : List (List ℕ)) (p : List ℕ) → list_any (bytes_eq p) nodes ≡ true → with_path nodes p ≡ nodes
 there nodes p e = rw e refl
 
-new_one : (nodes : List (List ℕ)) (p : List ℕ) → list_any (bytes_eq p) nodes ≡ false → with_path nodes p ≡ nodes ++ p ∷ []
+pub new_one : (nodes : List (List ℕ)) (p : List ℕ) → list_any (bytes_eq p) nodes ≡ false → with_path nodes p ≡ nodes ++ p ∷ []
 new_one nodes p e = rw e refl
 
 slice_get-left : (xs ys : List (List ℕ)) (i : ℕ) (x : List ℕ) → slice_get xs i ≡ Some x → slice_get (xs ++ ys) i ≡ Some x
@@ -64,7 +64,7 @@ slice_get-left [] ys i x e = absurd (cc)
 slice_get-left (y ∷ xs) ys zero x e = e
 slice_get-left (y ∷ xs) ys (suc i) x e = slice_get-left xs ys i x e
 
-kept : (nodes : List (List ℕ)) (p : List ℕ) (i : ℕ) (x : List ℕ) → slice_get nodes i ≡ Some x → slice_get (with_path nodes p) i ≡ Some x
+pub kept : (nodes : List (List ℕ)) (p : List ℕ) (i : ℕ) (x : List ℕ) → slice_get nodes i ≡ Some x → slice_get (with_path nodes p) i ≡ Some x
 kept nodes p i x e = by (list_any (bytes_eq p) nodes) refl
   where
     by : (b : Bool) → list_any (bytes_eq p) nodes ≡ b → slice_get (with_path nodes p) i ≡ Some x
@@ -112,7 +112,7 @@ or_assoc : (a b c : Bool) → ((a || b) || c) ≡ (a || (b || c))
 or_assoc true b c = refl
 or_assoc false b c = refl
 
-among_from : (t : List ℕ) (acc paths : List (List ℕ)) → list_any (bytes_eq t) (with_paths acc paths) ≡ (list_any (bytes_eq t) acc || list_any (bytes_eq t) paths)
+pub among_from : (t : List ℕ) (acc paths : List (List ℕ)) → list_any (bytes_eq t) (with_paths acc paths) ≡ (list_any (bytes_eq t) acc || list_any (bytes_eq t) paths)
 among_from t acc [] = sym (or_none (list_any (bytes_eq t) acc))
   where
     or_none : (b : Bool) → (b || false) ≡ b

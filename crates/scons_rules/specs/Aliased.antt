@@ -9,6 +9,8 @@ use Rattle.scons_rules.specs.declared.orders.Step.{Step}
 use Rattle.scons_rules.specs.declared.orders.Step.TheVariants.{Member, Inner}
 use Rattle.scons_rules.specs.Orders.{Lists, flattened}
 use Rattle.scons_decls.specs.declared.aliases.AliasParts.{AliasParts}
+use Rattle.scons_decls.specs.State.{Declared}
+use Rattle.scons_rules.specs.Settled.{settled}
 
 -- whether a node is the alias of a name
 abbrev pub is_alias : List ℕ → Given → Bool
@@ -45,6 +47,13 @@ path_in (given.File path) = path ∷ []
 path_in (given.Dir path) = path ∷ []
 path_in (given.Text text) = []
 path_in (given.Alias name) = []
+
+-- the file that a member of an alias stands for; a directory stands for itself
+abbrev pub file_in : Declared → Given → List (List ℕ)
+file_in d (given.File path) = settled d path ∷ []
+file_in d (given.Dir path) = path ∷ []
+file_in d (given.Text text) = []
+file_in d (given.Alias name) = []
 
 abbrev members_at : Lists → Option ℕ → List (List ℕ)
 members_at lists None = []

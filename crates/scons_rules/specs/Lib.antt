@@ -9,6 +9,16 @@ pub mod AliasTable
 pub mod Aliased
 pub mod Sayings
 pub mod Shell
+pub mod Knowing
 pub mod Expanding
+pub mod Actions
+pub mod ActionsLeft
 pub mod Lines
+pub mod Libraries
+pub mod Writes
 pub mod PathRules
+pub mod PathGraphs
+pub mod Making
+pub mod Ruling
+pub mod Readings
+pub mod Finishing

@@ -1,8 +1,13 @@
 //! One declared rule, put into the graph.
 ghost use Rattle.std.specs.Prelude.{◌≡◌, ◌≢◌, ◌<◌, ℕ, Ok, Err, length, IfOk, IfErr, OnOk};
 ghost use Rattle.rule_graph.specs.Rules.{IsRule};
+ghost use Rattle.scons_rules.specs.Expanding.{expanding};
+ghost use Rattle.scons_rules.specs.Making as spec;
 ghost use Rattle.scons_rules.specs.Nodes.{AreNodes, AreNamed, all_interned, lists_of};
 ghost use Rattle.scons_rules.specs.PathRules.{by_paths, rules_in, with_rule};
+ghost use Rattle.scons_rules.specs.PathGraphs.{graph_by};
+ghost use Rattle.scons_rules.specs.Ruling.{added};
+ghost use Rattle.scons_rules.specs.Sayings.{Spoken, Tells, said_of};
 
 use crate::fault::RuleReadFault;
 use crate::interning::{named_nodes, nodes_of};
@@ -10,7 +15,7 @@ use crate::locals::RuleLocals;
 use crate::making::{Making, making_of};
 use crate::one_rule::OneRule;
 use crate::reading::RuleReading;
-use crate::said::OfRule;
+use crate::said::{OfRule, SaidOf};
 use crate::sources::all_settled;
 use env_subst::Named;
 use rule_graph::{Graph, Rule};
@@ -47,15 +52,31 @@ impl RuleReading {
         number: usize,
         locals: &RuleLocals,
         libraries: &Paths,
-    ) -> Result<(), RuleReadFault> {
-        let Some(rule) = OneRule::at(self.alloc, &self.state, number, &locals.locals) else {
-            return Ok(());
-        };
-        let said = self
-            .said
-            .of_rule(self.alloc, rule.declared.targets.as_slice())?;
-        add_rule(&mut self.graph, &rule, &said, libraries)
+    ) -> Result<(), RuleReadFault>
+        ensures rest { self.new.declared ≡ self.old.declared }
+    {
+        match OneRule::at(self.alloc, &self.state, number, &locals.locals) {
+            Some(rule) => add_said(&mut self.graph, &rule, &self.said, libraries),
+            None => Ok(()),
+        }
     }
+}
+
+/// Puts a rule into a graph, where this was said of targets.
+fn add_said(
+    graph: &mut Graph,
+    rule: &OneRule<'_>,
+    said: &SaidOf,
+    libraries: &Paths,
+) -> Result<(), RuleReadFault>
+    ensures ok { OnOk result ((spoken : Spoken) → Tells spoken said.now
+        → spec.put_made (expanding rule.now) (said_of spoken rule.now.declared.now.targets) libraries.now (graph_by graph.old)
+        ≡ Ok (graph_by graph.new)) }
+    ensures fault { IfErr result (λ e. e ≢ RuleReadFault.Memory → (spoken : Spoken) → Tells spoken said.now
+        → spec.put_made (expanding rule.now) (said_of spoken rule.now.declared.now.targets) libraries.now (graph_by graph.old) ≡ Err e) }
+{
+    let said = said.of_rule(rule.alloc, rule.declared.targets.as_slice())?;
+    add_rule(graph, rule, &said, libraries)
 }
 
 /// Puts a rule, with what was said of it, into a graph.
@@ -64,7 +85,13 @@ fn add_rule(
     rule: &OneRule<'_>,
     said: &OfRule,
     libraries: &Paths,
-) -> Result<(), RuleReadFault> {
+) -> Result<(), RuleReadFault>
+    ensures ok { OnOk result (spec.put_made (expanding rule.now) said.now libraries.now (graph_by graph.old)
+        ≡ Ok (graph_by graph.new)) }
+    ensures fault { IfErr result (λ e. e ≢ RuleReadFault.Memory
+        → spec.put_made (expanding rule.now) said.now libraries.now (graph_by graph.old) ≡ Err e) }
+{
+    graph.laws();
     let making = making_of(rule)?;
     let paths = rule_paths(rule, libraries, said)?;
     let nodes = rule_nodes(rule.alloc, graph, &paths)?;
@@ -77,7 +104,8 @@ fn rule_paths<'a>(
     libraries: &'a Paths,
     said: &OfRule,
 ) -> Result<RulePaths<'a>, Memory>
-    ensures { IfOk result (λ p. p.targets.now ≡ rule.now.declared.now.targets) }
+    ensures lists { IfOk result (λ p. lists_of p ≡ spec.lists_by (expanding rule.now) said.now libraries.now) }
+    ensures targets { IfOk result (λ p. p.targets.now ≡ rule.now.declared.now.targets) }
 {
     let depends = all_settled(rule.alloc, rule.state, said.depends.as_slice())?;
     let required = all_settled(rule.alloc, rule.state, said.required.as_slice())?;
@@ -137,7 +165,8 @@ fn put(graph: &mut Graph, rule: Rule) -> Result<(), RuleReadFault>
 
 /// A rule of these nodes, made so.
 fn rule_of(rule: &OneRule<'_>, making: Making, nodes: RuleNodes, always: bool) -> Rule
-    ensures { (count : ℕ) → AreNodes count nodes → IsRule count result }
+    ensures valid { (count : ℕ) → AreNodes count nodes → IsRule count result }
+    ensures of { result ≡ spec.rule_with (expanding rule.now) making nodes always }
 {
     let work = rule.work();
     Rule {

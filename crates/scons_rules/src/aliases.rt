@@ -2,8 +2,9 @@
 ghost use Rattle.std.specs.Prelude.{◌≡◌, ◌++◌, [], ℕ, List, Some, true, map, position, slice_get, option_copied, IfOk, OnOk};
 ghost use Rattle.std.specs.List.{filter_map, flat_map};
 ghost use Rattle.std.specs.Str.{bytes_eq};
+ghost use Rattle.scons_decls.specs.State.{declared_of};
 ghost use Rattle.scons_rules.specs.AliasTable.{names_in, parts_in};
-ghost use Rattle.scons_rules.specs.Aliased.{Leaves, lists_of, steps_of, step_of, path_in, paths_in};
+ghost use Rattle.scons_rules.specs.Aliased.{Leaves, lists_of, steps_of, step_of, path_in, paths_in, file_in};
 ghost use Rattle.scons_rules.specs.Orders.{flattened};
 
 use crate::ignored::Ignored;
@@ -49,7 +50,9 @@ impl Aliases {
         alloc: Global,
         state: &Declarations,
         place: usize,
-    ) -> Result<Paths, Memory> {
+    ) -> Result<Paths, Memory>
+        ensures { IfOk result (λ p. p ≡ flat_map (file_in (declared_of state.now)) (flattened self.now place)) }
+    {
         let mut files = Paths::new(Vec::new(alloc));
         let members = flattened(alloc, self.lists.as_slice(), place)?;
         for member in members.as_slice() {
@@ -121,7 +124,9 @@ fn parts_at(state: &Declarations, place: usize) -> Option<&AliasParts>
 }
 
 /// Puts the file that a member stands for behind others, or the directory.
-fn push_file(state: &Declarations, files: &mut Paths, member: &Given) -> Result<(), Memory> {
+fn push_file(state: &Declarations, files: &mut Paths, member: &Given) -> Result<(), Memory>
+    ensures { OnOk result (files.new ≡ files.old ++ file_in (declared_of state.now) member.now) }
+{
     match member {
         Given::File(path) => files.push(settled(state, path)?),
         Given::Dir(path) => files.push(path.copy()?),

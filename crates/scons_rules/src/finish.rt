@@ -1,4 +1,10 @@
 //! What the graph holds beside rules.
+ghost use Rattle.std.specs.Prelude.{◌≡◌, ◌≢◌, ◌++◌, ℕ, List, Ok, Err, Some, IfOk, IfErr, OnOk, MatchResult, slice_get, option_copied};
+ghost use Rattle.scons_decls.specs.State.{declared_of};
+ghost use Rattle.scons_rules.specs.AliasTable.{names_in};
+ghost use Rattle.scons_rules.specs.Finishing as spec;
+ghost use Rattle.scons_rules.specs.PathGraphs.{graph_by};
+ghost use Rattle.scons_rules.specs.Ruling.{alias_lists};
 
 use crate::aliases::Aliases;
 use crate::fault::RuleReadFault;
@@ -19,7 +25,9 @@ impl RuleReading {
         Ok(reading.into_graph())
     }
 
-    fn into_graph(self) -> Graph {
+    fn into_graph(self) -> Graph
+        ensures { result ≡ self.graph }
+    {
         let RuleReading { graph, .. } = self;
         graph
     }
@@ -34,7 +42,10 @@ impl RuleReading {
 }
 
 /// What is said of a target that no rule makes would count for nothing. That it is always made is no matter then.
-fn refuse_unmade(state: &Declarations) -> Result<(), RuleReadFault> {
+fn refuse_unmade(state: &Declarations) -> Result<(), RuleReadFault>
+    ensures ok { OnOk result (spec.have_rules (declared_of state.now) ≡ Ok tt) }
+    ensures fault { IfErr result (λ e. e ≢ RuleReadFault.Memory → spec.have_rules (declared_of state.now) ≡ Err e) }
+{
     for said in &state.said {
         refuse_without_rule(state, said)?;
     }
@@ -42,7 +53,11 @@ fn refuse_unmade(state: &Declarations) -> Result<(), RuleReadFault> {
 }
 
 /// Refuses what was said of the first target that no rule makes.
-fn refuse_without_rule(state: &Declarations, said: &Said) -> Result<(), RuleReadFault> {
+fn refuse_without_rule(state: &Declarations, said: &Said) -> Result<(), RuleReadFault>
+    ensures ok { OnOk result (spec.has_rules (declared_of state.now) said.now ≡ Ok tt) }
+    ensures fault { IfErr result (λ e. e ≢ RuleReadFault.Memory
+        → spec.has_rules (declared_of state.now) said.now ≡ Err e) }
+{
     if matches!(said.saying, Saying::Always) {
         return Ok(());
     }
@@ -56,7 +71,9 @@ fn refuse_without_rule(state: &Declarations, said: &Said) -> Result<(), RuleRead
 }
 
 /// The first of these that no rule makes.
-fn unmade<'a>(state: &Declarations, targets: &'a [PathText]) -> Option<&'a PathText> {
+fn unmade<'a>(state: &Declarations, targets: &'a [PathText]) -> Option<&'a PathText>
+    ensures { option_copied result ≡ spec.unmade (declared_of state.now) targets.now }
+{
     for target in targets {
         if !state.made.contains(target) {
             return Some(target);
@@ -65,14 +82,22 @@ fn unmade<'a>(state: &Declarations, targets: &'a [PathText]) -> Option<&'a PathT
     None
 }
 
-fn add_variants(graph: &mut Graph, variants: &[Variant]) -> Result<(), RuleReadFault> {
+fn add_variants(graph: &mut Graph, variants: &[Variant]) -> Result<(), RuleReadFault>
+    ensures ok { OnOk result (spec.with_variants variants.now (graph_by graph.old) ≡ Ok (graph_by graph.new)) }
+    ensures fault { IfErr result (λ e. e ≢ RuleReadFault.Memory
+        → spec.with_variants variants.now (graph_by graph.old) ≡ Err e) }
+{
     for variant in variants {
         add_variant(graph, variant)?;
     }
     Ok(())
 }
 
-fn add_variant(graph: &mut Graph, variant: &Variant) -> Result<(), RuleReadFault> {
+fn add_variant(graph: &mut Graph, variant: &Variant) -> Result<(), RuleReadFault>
+    ensures ok { OnOk result (spec.with_variant variant.now (graph_by graph.old) ≡ Ok (graph_by graph.new)) }
+    ensures fault { IfErr result (λ e. e ≢ RuleReadFault.Memory
+        → spec.with_variant variant.now (graph_by graph.old) ≡ Err e) }
+{
     let added = graph.add_variant(&variant.dir, &variant.source, variant.duplicate);
     match added {
         Ok(()) => Ok(()),
@@ -102,6 +127,7 @@ fn add_alias(
     let Some((name, _)) = state.aliases.get_index(place) else {
         return Ok(());
     };
+    graph.laws();
     let files = aliases.files_at(alloc, state, place)?;
     let nodes = nodes_of(alloc, graph, files.as_slice())?;
     Ok(graph.add_alias(name.as_str(), nodes.as_slice())?)
@@ -119,14 +145,18 @@ fn add_defaults(alloc: Global, state: &Declarations, graph: &mut Graph) -> Resul
     Ok(())
 }
 
-fn add_helps(graph: &mut Graph, helps: &[Text]) -> Result<(), Memory> {
+fn add_helps(graph: &mut Graph, helps: &[Text]) -> Result<(), Memory>
+    ensures { OnOk result (graph.new ≡ record graph.old { helps = graph.old.helps ++ helps.now }) }
+{
     for help in helps {
         graph.add_help(help.copy()?)?;
     }
     Ok(())
 }
 
-fn wish_of(state: &Declarations, asked: &Asked) -> Result<Wish, Memory> {
+fn wish_of(state: &Declarations, asked: &Asked) -> Result<Wish, Memory>
+    ensures { IfOk result (λ w. w ≡ spec.wish_of (declared_of state.now) asked.now) }
+{
     match asked {
         Asked::Alias(name) => Ok(Wish::Alias(name.copy()?)),
         Asked::Path(path) => Ok(Wish::Path(path.copy()?)),
@@ -138,7 +168,9 @@ fn wish_of(state: &Declarations, asked: &Asked) -> Result<Wish, Memory> {
 }
 
 /// The word that says the same on the command line.
-fn word_of(alloc: Global, wish: &Wish) -> Result<Text, Memory> {
+fn word_of(alloc: Global, wish: &Wish) -> Result<Text, Memory>
+    ensures { IfOk result (λ t. t ≡ spec.word_of wish.now) }
+{
     match wish {
         Wish::Alias(name) => name.copy(),
         Wish::Path(path) => Text::of(alloc, path.as_str()),

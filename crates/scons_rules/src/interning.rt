@@ -70,7 +70,9 @@ pub(crate) fn named_nodes(
 }
 
 /// How many paths these nodes have, each counted once.
-pub(crate) fn count_once(alloc: Global, named: &[Named]) -> Result<usize, Memory> {
+pub(crate) fn count_once(alloc: Global, named: &[Named]) -> Result<usize, Memory>
+    ensures { IfOk result (λ n. n ≡ length (each_once (map (λ n. n.path) named.now))) }
+{
     let mut seen = IndexSet::new(alloc);
     for one in named {
         seen.insert(&one.path)?;

@@ -1,6 +1,9 @@
 //! The lines of a rule.
-ghost use Rattle.std.specs.Prelude.{◌≡◌, ◌≤◌, ◌++◌, drop, length, IfOk, OnOk};
-ghost use Rattle.scons_rules.specs.Lines.{is_mark, marks_len, line_of, lines_behind, with_command};
+ghost use Rattle.std.specs.Prelude.{◌≡◌, ◌≢◌, ◌≤◌, ◌++◌, Ok, Err, drop, length, IfOk, IfErr, OnOk};
+ghost use Rattle.scons_rules.specs.ActionsLeft.{texts_in};
+ghost use Rattle.scons_rules.specs.Expanding.{expanding, command_of};
+ghost use Rattle.scons_rules.specs.Lines.{is_mark, marks_len, line_of, lines_behind, with_command, lines_by};
+ghost use Rattle.scons_rules.specs.Steps.{each};
 
 use crate::fault::RuleReadFault;
 use crate::one_rule::OneRule;
@@ -17,7 +20,11 @@ pub(crate) struct RuleLines {
 }
 
 /// The expanded lines of these texts.
-pub(crate) fn lines_of(rule: &OneRule<'_>, texts: &[&str]) -> Result<RuleLines, RuleReadFault> {
+pub(crate) fn lines_of(rule: &OneRule<'_>, texts: &[&str]) -> Result<RuleLines, RuleReadFault>
+    ensures ok { IfOk result (λ l. lines_by (expanding rule.now) (texts_in texts.now) ≡ Ok l) }
+    ensures fault { IfErr result (λ e. e ≢ RuleReadFault.Memory
+        → lines_by (expanding rule.now) (texts_in texts.now) ≡ Err e) }
+{
     let mut lines = RuleLines {
         lines: Listing::empty(rule.alloc),
         signed: Texts::new(Vec::new(rule.alloc)),

@@ -1,4 +1,8 @@
 //! How a rule is made: its lines and what it signs, where headers are looked for, and the name of its builder.
+ghost use Rattle.std.specs.Prelude.{◌≡◌, ◌≢◌, [], ◌∷◌, Ok, Err, length, map, slice_get, option_copied, IfOk, IfErr};
+ghost use Rattle.scons_rules.specs.ActionsLeft.{texts_in};
+ghost use Rattle.scons_rules.specs.Expanding.{expanding};
+ghost use Rattle.scons_rules.specs.Making as spec;
 
 use crate::actions::{actions_of, strs};
 use crate::fault::RuleReadFault;
@@ -23,7 +27,10 @@ pub(crate) struct Making {
 }
 
 /// How a rule is made: its lines are expanded, and then its search path.
-pub(crate) fn making_of(rule: &OneRule<'_>) -> Result<Making, RuleReadFault> {
+pub(crate) fn making_of(rule: &OneRule<'_>) -> Result<Making, RuleReadFault>
+    ensures ok { IfOk result (λ m. spec.making_of (expanding rule.now) ≡ Ok m) }
+    ensures fault { IfErr result (λ e. e ≢ RuleReadFault.Memory → spec.making_of (expanding rule.now) ≡ Err e) }
+{
     let lines = rule_lines(rule)?;
     let paths = search_path(rule)?;
     let builder = builder_of(rule.alloc, rule.declared)?;
@@ -36,14 +43,20 @@ pub(crate) fn making_of(rule: &OneRule<'_>) -> Result<Making, RuleReadFault> {
 }
 
 /// The directories in which a rule looks for headers. An object's stand in its line.
-fn search_path(rule: &OneRule<'_>) -> Result<Paths, RuleReadFault> {
+fn search_path(rule: &OneRule<'_>) -> Result<Paths, RuleReadFault>
+    ensures ok { IfOk result (λ p. spec.search_path_of (expanding rule.now) ≡ Ok p) }
+    ensures fault { IfErr result (λ e. e ≢ RuleReadFault.Memory → spec.search_path_of (expanding rule.now) ≡ Err e) }
+{
     match rule.work() {
         Work::Shell => header_dirs(rule),
         Work::Copy | Work::Write => Ok(Paths::new(Vec::new(rule.alloc))),
     }
 }
 
-fn header_dirs(rule: &OneRule<'_>) -> Result<Paths, RuleReadFault> {
+fn header_dirs(rule: &OneRule<'_>) -> Result<Paths, RuleReadFault>
+    ensures ok { IfOk result (λ p. spec.header_dirs_of (expanding rule.now) ≡ Ok p) }
+    ensures fault { IfErr result (λ e. e ≢ RuleReadFault.Memory → spec.header_dirs_of (expanding rule.now) ≡ Err e) }
+{
     let dirs = rule.header_dirs()?;
     if matches!(rule.declared.recipe, Recipe::Object) {
         refuse_for_shell(dirs.as_slice())?;
@@ -52,7 +65,10 @@ fn header_dirs(rule: &OneRule<'_>) -> Result<Paths, RuleReadFault> {
 }
 
 /// The lines of a rule, and what it signs.
-fn rule_lines(rule: &OneRule<'_>) -> Result<RuleLines, RuleReadFault> {
+fn rule_lines(rule: &OneRule<'_>) -> Result<RuleLines, RuleReadFault>
+    ensures ok { IfOk result (λ l. spec.lines_of (expanding rule.now) ≡ Ok l) }
+    ensures fault { IfErr result (λ e. e ≢ RuleReadFault.Memory → spec.lines_of (expanding rule.now) ≡ Err e) }
+{
     match &rule.declared.recipe {
         Recipe::Textfile(texts, pairs) => {
             Ok(signing(
@@ -69,14 +85,19 @@ fn rule_lines(rule: &OneRule<'_>) -> Result<RuleLines, RuleReadFault> {
 }
 
 /// No lines, where this is signed.
-fn signing(alloc: Global, signed: Texts) -> RuleLines {
+fn signing(alloc: Global, signed: Texts) -> RuleLines
+    ensures { result ≡ spec.signing signed }
+{
     RuleLines {
         lines: Listing::empty(alloc),
         signed,
     }
 }
 
-fn shell_lines(rule: &OneRule<'_>) -> Result<RuleLines, RuleReadFault> {
+fn shell_lines(rule: &OneRule<'_>) -> Result<RuleLines, RuleReadFault>
+    ensures ok { IfOk result (λ l. spec.shell_lines (expanding rule.now) ≡ Ok l) }
+    ensures fault { IfErr result (λ e. e ≢ RuleReadFault.Memory → spec.shell_lines (expanding rule.now) ≡ Err e) }
+{
     let texts = texts_of(rule.alloc, rule.declared, rule.state.builders.as_slice())?;
     let actions = actions_of(rule, texts)?;
     lines_of(rule, actions.as_slice())
@@ -87,7 +108,10 @@ fn texts_of<'a>(
     alloc: Global,
     declared: &'a Declaration,
     builders: &'a [Builder],
-) -> Result<Vec<&'a str>, Memory> {
+) -> Result<Vec<&'a str>, Memory>
+    ensures { IfOk result (λ v. texts_in v.items
+        ≡ spec.texts_by declared.now.recipe builders.now declared.now.sources) }
+{
     match &declared.recipe {
         Recipe::Object => compiler_text(alloc, declared),
         Recipe::Program => one_text(alloc, "$LINKCOM"),
@@ -101,7 +125,9 @@ fn texts_of<'a>(
 }
 
 /// The line of the compiler that an object's source takes.
-fn compiler_text(alloc: Global, declared: &Declaration) -> Result<Vec<&str>, Memory> {
+fn compiler_text(alloc: Global, declared: &Declaration) -> Result<Vec<&str>, Memory>
+    ensures { IfOk result (λ v. texts_in v.items ≡ spec.compiler_line declared.now.sources ∷ []) }
+{
     if is_cplusplus_source(declared.sources.as_slice()) {
         one_text(alloc, "$CXXCOM")
     } else {
@@ -110,27 +136,35 @@ fn compiler_text(alloc: Global, declared: &Declaration) -> Result<Vec<&str>, Mem
 }
 
 /// The action of a script's own builder.
-fn own_texts(alloc: Global, builders: &[Builder], number: u32) -> Result<Vec<&str>, Memory> {
+fn own_texts(alloc: Global, builders: &[Builder], number: u32) -> Result<Vec<&str>, Memory>
+    ensures { IfOk result (λ v. texts_in v.items ≡ spec.action_of (slice_get builders.now number)) }
+{
     match builders.get(number as usize) {
         Some(builder) => strs(alloc, builder.action.as_slice()),
         None => Ok(Vec::new(alloc)),
     }
 }
 
-fn one_text<'a>(alloc: Global, text: &'a str) -> Result<Vec<&'a str>, Memory> {
+fn one_text<'a>(alloc: Global, text: &'a str) -> Result<Vec<&'a str>, Memory>
+    ensures { IfOk result (λ v. texts_in v.items ≡ text.now ∷ []) }
+{
     let mut texts = Vec::new(alloc);
     texts.push(text)?;
     Ok(texts)
 }
 
-fn two_texts<'a>(alloc: Global, first: &'a str, second: &'a str) -> Result<Vec<&'a str>, Memory> {
+fn two_texts<'a>(alloc: Global, first: &'a str, second: &'a str) -> Result<Vec<&'a str>, Memory>
+    ensures { IfOk result (λ v. texts_in v.items ≡ first.now ∷ second.now ∷ []) }
+{
     let mut texts = one_text(alloc, first)?;
     texts.push(second)?;
     Ok(texts)
 }
 
 /// The name of a rule's builder: of one of a script's own its number.
-fn builder_of(alloc: Global, declared: &Declaration) -> Result<Text, Memory> {
+fn builder_of(alloc: Global, declared: &Declaration) -> Result<Text, Memory>
+    ensures { IfOk result (λ t. t ≡ spec.builder_of declared.now.recipe) }
+{
     match &declared.recipe {
         Recipe::Object => Text::of(alloc, "Object"),
         Recipe::Program => Text::of(alloc, "Program"),

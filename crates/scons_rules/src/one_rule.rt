@@ -1,5 +1,6 @@
 //! One declared rule, with what its texts are expanded with.
 ghost use Rattle.std.specs.Prelude.{◌≡◌, ◌≢◌, Ok, Err, Some, None, IfOk, IfErr, MatchOption, codes, slice_get};
+ghost use Rattle.scons_rules.specs.Knowing.{work_of};
 ghost use Rattle.scons_rules.specs.Expanding.{expanding, text_of, command_of, lib_items_of, dirs_of};
 
 use crate::fault::RuleReadFault;
@@ -45,11 +46,9 @@ impl<'a> OneRule<'a> {
         self.declared.env
     }
 
-    pub(crate) fn is_program(&self) -> bool {
-        matches!(self.declared.recipe, Recipe::Program)
-    }
-
-    pub(crate) fn work(&self) -> Work {
+    pub(crate) fn work(&self) -> Work
+        ensures { result ≡ work_of self.now.declared.now.recipe }
+    {
         work_of(self.declared)
     }
 
@@ -95,7 +94,9 @@ impl<'a> OneRule<'a> {
     }
 }
 
-pub(crate) fn work_of(declared: &Declaration) -> Work {
+pub(crate) fn work_of(declared: &Declaration) -> Work
+    ensures { result ≡ work_of declared.now.recipe }
+{
     match declared.recipe {
         Recipe::Install | Recipe::InstallAs => Work::Copy,
         Recipe::Textfile(..) | Recipe::Substfile(_) => Work::Write,

@@ -1,7 +1,7 @@
 use Rattle.scons_rules.proofs.adding.rule_of.Goals as goal
 
-pub returns : goal.returns
-returns c = λ count nodes. record {
+pub returns-clause-valid : goal.returns-clause-valid
+returns-clause-valid c = λ count nodes. record {
   has_target = nodes.has_target;
   distinct = nodes.distinct;
   targets = nodes.targets;
