@@ -1,1 +1,6 @@
 mod Exits
+pub mod Lasts
+pub mod Meant
+pub mod Plain
+pub mod Saying
+pub mod Stopping

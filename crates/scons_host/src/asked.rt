@@ -1,5 +1,11 @@
 //! Attributes and items of objects.
+ghost use Rattle.std.specs.Prelude.{◌≡◌, ◌≢◌, ◌⊎◌, Ok, Err, IfOk, IfErr, OnOk, string_bytes};
 ghost use Rattle.py_host.specs.Extends.{Extends};
+ghost use Rattle.scons_calls.specs.Kinds.{pairs_in};
+ghost use Rattle.scons_calls.specs.Results.{along};
+ghost use Rattle.scons_host.specs.Asked as spec;
+ghost use Rattle.scons_host.specs.Refusals as told;
+ghost use Rattle.scons_host.specs.SoFar.{so_far};
 
 use crate::declaring::{made, variable};
 use crate::end::ReadKind;
@@ -8,13 +14,13 @@ use crate::stop::{Refusal, bad_argument, left_out, no_such_key, refused};
 use env_vars::EnvValue;
 use py_heap::{DictId, Heap, HostId, Value};
 use py_host::Place;
-use scons_base::{EnvId, PathText, Text};
+use scons_base::{EnvId, Memory, PathText, Text};
 use scons_calls::{
     NameId, Thing, builder, is_identifier, is_left_out_of_environments, text_value, variable_of,
     variable_value,
 };
 use scons_decls::{Call, NameFault};
-use std::alloc::Global;
+use std::alloc::{AllocError, Global};
 
 /// The builders of an environment, among its variables.
 const BUILDERS: &str = "BUILDERS";
@@ -37,7 +43,10 @@ enum Subject {
     Called,
 }
 
-fn subject_of(state: &State, object: HostId) -> Result<Subject, Refusal> {
+fn subject_of(state: &State, object: HostId) -> Result<Subject, Refusal>
+    ensures ok { IfOk result (λ x. x ≡ spec.subject_at (so_far state.now) object.0) }
+    ensures fault { IfErr result (λ e. e ≡ Refusal.Memory) }
+{
     Ok(match state.objects.thing(object) {
         Some(Thing::Env(env)) => Subject::Env(*env),
         Some(Thing::Builders(env)) => Subject::Builders(*env),
@@ -55,7 +64,11 @@ pub fn attribute(
     object: HostId,
     name: &str,
 ) -> Result<Value, Refusal>
-    ensures { Extends heap.old heap.new }
+    ensures stands { Extends heap.old heap.new }
+    ensures ok { IfOk result (λ v.
+        spec.attribute (so_far state.old) heap.old object.0 name.now ≡ Ok (v, so_far state.new, heap.new)) }
+    ensures fault { IfErr result (λ e. e ≢ Refusal.Memory →
+        spec.IsRefused name.now e (spec.attribute (so_far state.old) heap.old object.0 name.now)) }
 {
     match subject_of(state, object)? {
         Subject::Env(env) => method(state, env, name),
@@ -66,15 +79,27 @@ pub fn attribute(
 }
 
 /// The method of an environment: a builder that the environment has, or a name of SCons.
-fn method(state: &mut State, env: EnvId, name: &str) -> Result<Value, Refusal> {
+fn method(state: &mut State, env: EnvId, name: &str) -> Result<Value, Refusal>
+    ensures ok { IfOk result (λ v. spec.method (so_far state.old) env name.now ≡ Ok (v, so_far state.new)) }
+    ensures fault { IfErr result (λ e. e ≢ Refusal.Memory → spec.IsRefused name.now e (spec.method (so_far state.old) env name.now)) }
+{
     let Some(thing) = method_of(state, env, name)? else {
         return Err(no_method(state.alloc, name));
     };
+    Ok(object_of(state, thing)?)
+}
+
+/// The object of a thing.
+fn object_of(state: &mut State, thing: Thing) -> Result<Value, Memory>
+    ensures { IfOk result (λ v. spec.object_of (so_far state.old) thing ≡ (v, so_far state.new)) }
+{
     Ok(Value::Object(state.objects.object(thing)?))
 }
 
 /// A builder of the environment's own comes before the name of SCons that is written so.
-fn method_of(state: &State, env: EnvId, name: &str) -> Result<Option<Thing>, Refusal> {
+fn method_of(state: &State, env: EnvId, name: &str) -> Result<Option<Thing>, Memory>
+    ensures { IfOk result (λ thing. thing ≡ spec.method_of (so_far state.now) env name.now) }
+{
     if state.declared.builder_of(env, name).is_some() {
         let text = Text::of(state.alloc, name)?;
         return Ok(Some(Thing::OwnMethod(env, text)));
@@ -85,7 +110,9 @@ fn method_of(state: &State, env: EnvId, name: &str) -> Result<Option<Thing>, Ref
     }
 }
 
-fn no_method(alloc: Global, name: &str) -> Refusal {
+fn no_method(alloc: Global, name: &str) -> Refusal
+    ensures { result ≢ Refusal.Memory → (result ≡ spec.no_method name.now) ⊎ (result ≡ told.left_out name.now) }
+{
     if is_left_out_of_environments(name) {
         return left_out(alloc, name);
     }
@@ -98,7 +125,10 @@ fn no_method(alloc: Global, name: &str) -> Refusal {
 /// What an attribute tells of a node or directory.
 #[tactic(auto, using(crate::specs::Looking::looking))]
 fn told(state: &State, heap: &mut Heap, path: &PathText, name: &str) -> Result<Value, Refusal>
-    ensures { Extends heap.old heap.new }
+    ensures stands { Extends heap.old heap.new }
+    ensures ok { IfOk result (λ v. spec.path_part state.now.top heap.old path.now name.now ≡ Ok (v, heap.new)) }
+    ensures fault { IfErr result (λ e. e ≢ Refusal.Memory →
+        spec.path_part state.now.top heap.old path.now name.now ≡ Err e) }
 {
     let part = match name {
         "path" => PathPart::Path,
@@ -117,7 +147,9 @@ fn told(state: &State, heap: &mut Heap, path: &PathText, name: &str) -> Result<V
 }
 
 /// The absolute path of a path.
-fn absolute(state: &State, path: &PathText) -> Result<String, Refusal> {
+fn absolute(state: &State, path: &PathText) -> Result<String, AllocError>
+    ensures { IfOk result (λ text. string_bytes text ≡ spec.absolute state.now.top path.now) }
+{
     let alloc = state.alloc;
     let text = path.as_str();
     if text.starts_with('/') {
@@ -143,38 +175,64 @@ pub fn item(
     object: HostId,
     key: Value,
 ) -> Result<Value, Refusal>
-    ensures { Extends heap.old heap.new }
+    ensures stands { Extends heap.old heap.new }
+    ensures ok { IfOk result (λ v.
+        spec.item (so_far state.old) heap.old place object.0 key ≡ Ok (v, so_far state.new, heap.new)) }
+    ensures fault { IfErr result (λ e. e ≢ Refusal.Memory →
+        spec.item (so_far state.old) heap.old place object.0 key ≡ Err e) }
 {
     let name = key_text(state, heap, object, key)?;
     match subject_of(state, object)? {
         Subject::Env(env) if name.as_str() == BUILDERS => {
-            let id = state.objects.object(Thing::Builders(env))?;
-            Ok(Value::Object(id))
+            Ok(object_of(state, Thing::Builders(env))?)
         }
-        Subject::Env(env) => match variable(state, place, env, name.copy()?)? {
-            Some(value) => Ok(variable_value(heap, &mut state.objects, &value)?),
-            None => Err(no_such_key(name)),
-        },
-        Subject::Builders(env) => match state.declared.builder_of(env, name.as_str()) {
-            Some(number) => Ok(Value::Object(state.objects.object(Thing::Builder(number))?)),
-            None => Err(no_such_key(name)),
-        },
+        Subject::Env(env) => variable_item(state, heap, place, env, name),
+        Subject::Builders(env) => builder_item(state, env, name),
         Subject::Path(_) | Subject::Made | Subject::Called => Err(not_indexed(state, heap, object)),
     }
 }
 
-/// Sets an item of an object.
+/// The value of a variable.
 #[tactic(auto, using(crate::specs::Looking::looking))]
-pub fn set_item(
+fn variable_item(
     state: &mut State,
     heap: &mut Heap,
+    place: Place,
+    env: EnvId,
+    name: Text,
+) -> Result<Value, Refusal>
+    ensures stands { Extends heap.old heap.new }
+    ensures ok { IfOk result (λ v.
+        spec.variable_item (so_far state.old) heap.old place env.0 name ≡ Ok (v, so_far state.new, heap.new)) }
+    ensures fault { IfErr result (λ e. e ≢ Refusal.Memory →
+        spec.variable_item (so_far state.old) heap.old place env.0 name ≡ Err e) }
+{
+    match variable(state, place, env, name.copy()?)? {
+        Some(value) => Ok(variable_value(heap, &mut state.objects, &value)?),
+        None => Err(no_such_key(name)),
+    }
+}
+
+/// A builder of an environment.
+fn builder_item(state: &mut State, env: EnvId, name: Text) -> Result<Value, Refusal>
+    ensures ok { IfOk result (λ v. spec.builder_item (so_far state.old) env name ≡ Ok (v, so_far state.new)) }
+    ensures fault { IfErr result (λ e. e ≢ Refusal.Memory → spec.builder_item (so_far state.old) env name ≡ Err e) }
+{
+    match state.declared.builder_of(env, name.as_str()) {
+        Some(number) => Ok(object_of(state, Thing::Builder(number))?),
+        None => Err(no_such_key(name)),
+    }
+}
+
+/// Sets an item of an object.
+pub fn set_item(
+    state: &mut State,
+    heap: &Heap,
     place: Place,
     object: HostId,
     key: Value,
     value: Value,
-) -> Result<(), Refusal>
-    ensures { Extends heap.old heap.new }
-{
+) -> Result<(), Refusal> {
     let name = key_text(state, heap, object, key)?;
     match subject_of(state, object)? {
         Subject::Env(env) if name.as_str() == BUILDERS => {
@@ -186,19 +244,16 @@ pub fn set_item(
     }
 }
 
-#[tactic(auto, using(crate::specs::Looking::looking))]
 fn set_variable(
     state: &mut State,
-    heap: &mut Heap,
+    heap: &Heap,
     place: Place,
     env: EnvId,
     name: Text,
     value: Value,
-) -> Result<(), Refusal>
-    ensures { Extends heap.old heap.new }
-{
+) -> Result<(), Refusal> {
     let value = variable_value_of(state, heap, name.as_str(), value)?;
-    made(state, heap, place, env, Call::Set(name, value))
+    made(state, place, env, Call::Set(name, value))
 }
 
 /// The value that a script gives a variable.
@@ -218,39 +273,56 @@ fn variable_value_of(
 }
 
 /// Adds the builders of a dict to those of an environment.
-#[tactic(auto, using(crate::specs::Looking::looking))]
 fn set_builders(
     state: &mut State,
-    heap: &mut Heap,
+    heap: &Heap,
     place: Place,
     env: EnvId,
     value: Value,
 ) -> Result<(), Refusal>
-    ensures { Extends heap.old heap.new }
+    ensures ok { OnOk result (spec.set_builders (so_far state.old) heap.now place env.0 value ≡ Ok (so_far state.new)) }
+    ensures fault { IfErr result (λ e. e ≢ Refusal.Memory →
+        spec.set_builders (so_far state.old) heap.now place env.0 value ≡ Err e) }
 {
-    let Value::Dict(dict) = value else {
-        return Err(left_out(state.alloc, BUILDERS));
-    };
-    for at in 0..heap.dict_len(dict) {
-        put_builder(state, heap, place, env, dict, at)?;
+    match value {
+        Value::Dict(dict) => put_builders(state, heap, place, env, dict),
+        _ => Err(left_out(state.alloc, BUILDERS)),
+    }
+}
+
+#[tactic(auto, using(scons_calls::proofs::Loops::loops, crate::proofs::Lasts::lasts))]
+fn put_builders(
+    state: &mut State,
+    heap: &Heap,
+    place: Place,
+    env: EnvId,
+    dict: DictId,
+) -> Result<(), Refusal>
+    ensures ok { OnOk result (along (spec.set_pair heap.now place env.0) (so_far state.old) (pairs_in heap.now dict.0)
+        ≡ Ok (so_far state.new)) }
+    ensures fault { IfErr result (λ e. e ≢ Refusal.Memory →
+        along (spec.set_pair heap.now place env.0) (so_far state.old) (pairs_in heap.now dict.0) ≡ Err e) }
+{
+    'pairs: for at in 0..heap.dict_len(dict) {
+        if let Some(pair) = heap.pair_of(Value::Dict(dict), at as u64) {
+            put_builder(state, heap, place, env, pair)?;
+        }
     }
     Ok(())
 }
 
-#[tactic(auto, using(crate::specs::Looking::looking))]
 fn put_builder(
     state: &mut State,
-    heap: &mut Heap,
+    heap: &Heap,
     place: Place,
     env: EnvId,
-    dict: DictId,
-    at: usize,
+    pair: (Value, Value),
 ) -> Result<(), Refusal>
-    ensures { Extends heap.old heap.new }
+    ensures ok { OnOk result (spec.set_pair heap.now place env.0 (so_far state.old) pair ≡ Ok (so_far state.new)) }
+    ensures fault { IfErr result (λ e. e ≢ Refusal.Memory →
+        spec.set_pair heap.now place env.0 (so_far state.old) pair ≡ Err e) }
 {
-    let Some((key, value)) = heap.pair_of(Value::Dict(dict), at as u64) else {
-        return Ok(());
-    };
+    let (key, value) = pair;
     let Some(name) = heap.text_of(key) else {
         return Err(bad_argument(state.alloc, BUILDERS));
     };
@@ -258,23 +330,27 @@ fn put_builder(
     set_builder(state, heap, place, env, name, value)
 }
 
-#[tactic(auto, using(crate::specs::Looking::looking))]
 fn set_builder(
     state: &mut State,
-    heap: &mut Heap,
+    heap: &Heap,
     place: Place,
     env: EnvId,
     name: Text,
     value: Value,
 ) -> Result<(), Refusal>
-    ensures { Extends heap.old heap.new }
+    ensures ok { OnOk result (spec.set_builder (so_far state.old) heap.now place env.0 name value ≡ Ok (so_far state.new)) }
+    ensures fault { IfErr result (λ e. e ≢ Refusal.Memory →
+        spec.set_builder (so_far state.old) heap.now place env.0 name value ≡ Err e) }
 {
     let number = builder_of(state, heap, value)?;
-    made(state, heap, place, env, Call::SetBuilder(name, number))
+    made(state, place, env, Call::SetBuilder(name, number))
 }
 
 /// The number of a builder that a script gives a name.
-fn builder_of(state: &State, heap: &Heap, value: Value) -> Result<u32, Refusal> {
+fn builder_of(state: &State, heap: &Heap, value: Value) -> Result<u32, Refusal>
+    ensures ok { IfOk result (λ n. spec.builder_given heap.now state.now.objects value ≡ Ok n) }
+    ensures fault { IfErr result (λ e. e ≢ Refusal.Memory → spec.builder_given heap.now state.now.objects value ≡ Err e) }
+{
     match builder(heap, &state.objects, value) {
         Ok(number) => Ok(number),
         Err(fault) => Err(refused(state.alloc, BUILDERS, fault)),
@@ -282,13 +358,18 @@ fn builder_of(state: &State, heap: &Heap, value: Value) -> Result<u32, Refusal> 
 }
 
 /// The text of a key.
-fn key_text(state: &State, heap: &Heap, object: HostId, key: Value) -> Result<Text, Refusal> {
+fn key_text(state: &State, heap: &Heap, object: HostId, key: Value) -> Result<Text, Refusal>
+    ensures ok { IfOk result (λ name. spec.key_of heap.now object.0 key ≡ Ok name) }
+    ensures fault { IfErr result (λ e. e ≢ Refusal.Memory → spec.key_of heap.now object.0 key ≡ Err e) }
+{
     match heap.text_of(key) {
         Some(text) => Ok(Text::of(state.alloc, text)?),
         None => Err(not_indexed(state, heap, object)),
     }
 }
 
-fn not_indexed(state: &State, heap: &Heap, object: HostId) -> Refusal {
+fn not_indexed(state: &State, heap: &Heap, object: HostId) -> Refusal
+    ensures { result ≢ Refusal.Memory → result ≡ told.bad_argument (told.shown_as heap.now object.0) }
+{
     bad_argument(state.alloc, heap.shown_of(object).unwrap_or("env"))
 }

@@ -1,6 +1,9 @@
 //! Calls of objects: names of SCons, methods of environments and builders.
+ghost use Rattle.std.specs.Prelude.{◌≡◌, ◌≢◌, Ok, Err, IfErr, OnOk};
 ghost use Rattle.py_host.specs.Extends.{Extends};
 ghost use Rattle.scons_host.specs.Causes.{HasLookCause};
+ghost use Rattle.scons_host.specs.Sharing as sharing;
+ghost use Rattle.scons_host.specs.SoFar.{so_far};
 ghost use Rattle.world_api.specs.Looks.{LooksAtFiles};
 
 use crate::answers::{flat_value, split_value};
@@ -12,7 +15,7 @@ use crate::state::State;
 use crate::stop::{Refusal, Stop, bad_argument, refused};
 use py_heap::{Heap, HostId, Value};
 use py_host::{Args, Place, Reply, Scope};
-use scons_base::{EnvId, Text, Texts};
+use scons_base::{EnvId, Text};
 use scons_calls::{
     CallFault, Exports, NameId, Request, Shared, Thing, Valued, own_request_of, request_of,
 };
@@ -133,9 +136,15 @@ fn shared(
     ensures { Extends heap.old heap.new }
 {
     match asked {
-        Shared::Export(exports) => exported(state, caller, exports),
-        Shared::Import(names) => import(state, names),
-        Shared::Return(names) => returned(state, heap, caller, names),
+        Shared::Export(exports) => {
+            export(state, caller, &exports)?;
+            Ok(Reply::Value(Value::Nil))
+        }
+        Shared::Import(names) => Ok(Reply::Names(imported(state, &names)?)),
+        Shared::Return(names) => {
+            return_names(state, heap, &names, caller.locals, caller.globals)?;
+            Ok(Reply::Return)
+        }
     }
 }
 
@@ -160,32 +169,18 @@ fn value_of(
 }
 
 /// Exports names to all scripts.
-fn exported(state: &mut State, caller: Caller<'_>, exports: Exports) -> Result<Reply, Refusal> {
+fn export(state: &mut State, caller: Caller<'_>, exports: &Exports) -> Result<(), Refusal>
+    ensures ok { OnOk result (sharing.export (so_far state.old) caller.entry.locals.now caller.entry.globals.now exports.now
+        ≡ Ok (so_far state.new)) }
+    ensures fault { IfErr result (λ e. e ≢ Refusal.Memory →
+        sharing.export (so_far state.old) caller.entry.locals.now caller.entry.globals.now exports.now ≡ Err e) }
+{
     let alloc = state.alloc;
     put_exports(
         alloc,
         &mut state.exports,
-        &exports,
+        exports,
         caller.locals,
         caller.globals,
-    )?;
-    Ok(Reply::Value(Value::Nil))
-}
-
-fn import(state: &State, names: Texts) -> Result<Reply, Refusal> {
-    Ok(Reply::Names(imported(state, &names)?))
-}
-
-/// Ends a script that returns the values of names.
-#[tactic(auto, using(crate::specs::Looking::looking))]
-fn returned(
-    state: &mut State,
-    heap: &mut Heap,
-    caller: Caller<'_>,
-    names: Texts,
-) -> Result<Reply, Refusal>
-    ensures { Extends heap.old heap.new }
-{
-    return_names(state, heap, &names, caller.locals, caller.globals)?;
-    Ok(Reply::Return)
+    )
 }

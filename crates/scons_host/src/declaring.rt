@@ -1,5 +1,9 @@
 //! Declarations on the plain state of the reading, and the values of their answers.
+ghost use Rattle.std.specs.Prelude.{◌≡◌, ◌≢◌, Ok, Err, IfOk, IfErr, OnOk};
 ghost use Rattle.py_host.specs.Extends.{Extends};
+ghost use Rattle.scons_host.specs.Asked as spec;
+ghost use Rattle.scons_host.specs.Lookups.{get};
+ghost use Rattle.scons_host.specs.SoFar.{so_far};
 
 use crate::answers::{answer_value, is_single};
 use crate::state::State;
@@ -29,17 +33,11 @@ pub fn declared(
 }
 
 /// Declares a call that answers nothing.
-#[tactic(auto, using(crate::specs::Looking::looking))]
-pub fn made(
-    state: &mut State,
-    heap: &mut Heap,
-    place: Place,
-    env: EnvId,
-    call: Call,
-) -> Result<(), Refusal>
-    ensures { Extends heap.old heap.new }
+pub fn made(state: &mut State, place: Place, env: EnvId, call: Call) -> Result<(), Refusal>
+    ensures ok { OnOk result (spec.made (so_far state.old) place env.0 call ≡ Ok (so_far state.new)) }
+    ensures fault { IfErr result (λ e. e ≢ Refusal.Memory → spec.made (so_far state.old) place env.0 call ≡ Err e) }
 {
-    declared(state, heap, place, env, call)?;
+    answer(state, place, env, call)?;
     Ok(())
 }
 
@@ -49,7 +47,10 @@ pub fn variable(
     place: Place,
     env: EnvId,
     name: Text,
-) -> Result<Option<EnvValue>, Refusal> {
+) -> Result<Option<EnvValue>, Refusal>
+    ensures ok { IfOk result (λ x. spec.variable (so_far state.old) place env.0 name ≡ Ok (x, so_far state.new)) }
+    ensures fault { IfErr result (λ e. e ≢ Refusal.Memory → spec.variable (so_far state.old) place env.0 name ≡ Err e) }
+{
     match answer(state, place, env, Call::Get(name))? {
         Answer::Variable(value) => Ok(value),
         Answer::Nothing | Answer::Env(_) | Answer::Targets(_) => Ok(None),
@@ -58,7 +59,11 @@ pub fn variable(
 }
 
 /// What a call answers.
-fn answer(state: &mut State, place: Place, env: EnvId, call: Call) -> Result<Answer, NameFault> {
+#[tactic(auto, unfolding(crate::specs::Asked::declared_in))]
+fn answer(state: &mut State, place: Place, env: EnvId, call: Call) -> Result<Answer, NameFault>
+    ensures ok { IfOk result (λ a. spec.declared_in (so_far state.old) place env.0 call ≡ Ok (a, so_far state.new)) }
+    ensures fault { IfErr result (λ e. e ≢ NameFault.Memory → spec.declared_in (so_far state.old) place env.0 call ≡ Err e) }
+{
     declare(&mut state.declared, env, place_of(place), &call)
 }
 
@@ -72,7 +77,11 @@ pub fn value_or(
     name: Text,
     default: Value,
 ) -> Result<Value, Refusal>
-    ensures { Extends heap.old heap.new }
+    ensures stands { Extends heap.old heap.new }
+    ensures ok { IfOk result (λ v.
+        get (so_far state.old) heap.old place env.0 name default ≡ Ok (v, so_far state.new, heap.new)) }
+    ensures fault { IfErr result (λ e. e ≢ Refusal.Memory →
+        get (so_far state.old) heap.old place env.0 name default ≡ Err e) }
 {
     match variable(state, place, env, name)? {
         Some(value) => Ok(variable_value(heap, &mut state.objects, &value)?),
@@ -80,7 +89,9 @@ pub fn value_or(
     }
 }
 
-fn place_of(place: Place) -> scons_decls::Place {
+fn place_of(place: Place) -> scons_decls::Place
+    ensures { result ≡ spec.site_of place }
+{
     scons_decls::Place {
         script: place.script,
         line: place.line,

@@ -55,10 +55,7 @@ impl<W: World, O: Sink> Host for ReadingHost<'_, '_, '_, '_, W, O> {
     ghost determined = { host_determined W.meaning O.meaning };
 
     fn name(&mut self, name: &str) -> Option<Value> {
-        if name == "ARGUMENTS" {
-            return Some(self.state.arguments);
-        }
-        Some(Value::Object(self.state.objects.name(name)?))
+        self.state.name(name)
     }
 
     fn call(

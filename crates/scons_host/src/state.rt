@@ -1,4 +1,9 @@
 //! What a reading has so far.
+ghost use Rattle.std.specs.Prelude.{◌≡◌, IfOk};
+ghost use Rattle.scons_host.specs.Asked.{name_in};
+ghost use Rattle.scons_host.specs.Lookups.{script_at};
+ghost use Rattle.scons_host.specs.SoFar.{so_far};
+
 use crate::open::OpenCall;
 use crate::stop::Refusal;
 use py_heap::{Heap, Value};
@@ -53,8 +58,20 @@ impl State {
         })
     }
 
+    /// What a name stands for that neither scripts nor the language have.
+    pub fn name(&self, name: &str) -> Option<Value>
+        ensures { result ≡ name_in (so_far self.now) name.now }
+    {
+        if name == "ARGUMENTS" {
+            return Some(self.arguments);
+        }
+        Some(Value::Object(self.objects.name(name)?))
+    }
+
     /// The path of the script of a number.
-    pub fn script_at(&self, number: u64) -> Result<PathText, Memory> {
+    pub fn script_at(&self, number: u64) -> Result<PathText, Memory>
+        ensures { IfOk result (λ path. path ≡ script_at (so_far self.now) number) }
+    {
         match self.scripts.as_slice().get(number as usize) {
             Some(path) => path.copy(),
             None => self.top.copy(),

@@ -1,4 +1,8 @@
 //! Why a call of the host isn't answered.
+ghost use Rattle.std.specs.Prelude.{◌≡◌, ◌≢◌};
+ghost use Rattle.scons_host.specs.Refusals as told;
+ghost use Rattle.scons_host.specs.declared.stop.Refusal.TheVariants as refusal;
+
 use crate::end::ReadKind;
 use py_heap::ValueFault;
 use py_meaning::EvalKind;
@@ -47,7 +51,9 @@ impl Stop {
 }
 
 /// The refusal of a call that isn't taken, by the name that is called.
-pub fn refused(alloc: Global, name: &str, fault: CallFault) -> Refusal {
+pub fn refused(alloc: Global, name: &str, fault: CallFault) -> Refusal
+    ensures { result ≢ Refusal.Memory → result ≡ told.of_call name.now fault }
+{
     match fault {
         CallFault::Arguments => bad_argument(alloc, name),
         CallFault::Argument(name) => Refusal::Kind(ReadKind::Name(NameFault::BadArgument(name))),
@@ -56,7 +62,9 @@ pub fn refused(alloc: Global, name: &str, fault: CallFault) -> Refusal {
     }
 }
 
-pub fn bad_argument(alloc: Global, name: &str) -> Refusal {
+pub fn bad_argument(alloc: Global, name: &str) -> Refusal
+    ensures { result ≢ Refusal.Memory → result ≡ told.bad_argument name.now }
+{
     match Text::of(alloc, name) {
         Ok(name) => Refusal::Kind(ReadKind::Name(NameFault::BadArgument(name))),
         Err(_) => Refusal::Memory,
@@ -64,7 +72,9 @@ pub fn bad_argument(alloc: Global, name: &str) -> Refusal {
 }
 
 /// The refusal of a name that is left out.
-pub fn left_out(alloc: Global, name: &str) -> Refusal {
+pub fn left_out(alloc: Global, name: &str) -> Refusal
+    ensures { result ≢ Refusal.Memory → result ≡ told.left_out name.now }
+{
     match Text::of(alloc, name) {
         Ok(name) => Refusal::Kind(ReadKind::Name(NameFault::OutOfProfile(name))),
         Err(_) => Refusal::Memory,
@@ -72,11 +82,15 @@ pub fn left_out(alloc: Global, name: &str) -> Refusal {
 }
 
 /// The refusal of a variable or builder that an environment hasn't.
-pub fn no_such_key(name: Text) -> Refusal {
+pub fn no_such_key(name: Text) -> Refusal
+    ensures { result ≡ told.no_such_key name }
+{
     Refusal::Kind(ReadKind::Key(name))
 }
 
 impl From<NameFault> for Refusal {
+    ghost from_gives = { λ fault e. e ≡ told.of_name fault };
+
     fn from(fault: NameFault) -> Self {
         match fault {
             NameFault::Memory => Refusal::Memory,
@@ -86,6 +100,8 @@ impl From<NameFault> for Refusal {
 }
 
 impl From<ValueFault> for Refusal {
+    ghost from_gives = { λ fault e. e ≡ told.of_value fault };
+
     fn from(fault: ValueFault) -> Self {
         match fault {
             ValueFault::Memory => Refusal::Memory,
@@ -95,18 +111,24 @@ impl From<ValueFault> for Refusal {
 }
 
 impl From<NoMemory> for Refusal {
+    ghost from_gives = { λ _ e. e ≡ refusal.Memory };
+
     fn from(_: NoMemory) -> Self {
         Refusal::Memory
     }
 }
 
 impl From<AllocError> for Refusal {
+    ghost from_gives = { λ _ e. e ≡ refusal.Memory };
+
     fn from(_: AllocError) -> Self {
         Refusal::Memory
     }
 }
 
 impl<T: Drop> From<AllocFailed<T>> for Refusal {
+    ghost from_gives = { λ _ e. e ≡ refusal.Memory };
+
     fn from(_: AllocFailed<T>) -> Self {
         Refusal::Memory
     }

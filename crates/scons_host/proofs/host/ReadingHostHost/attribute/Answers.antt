@@ -7,7 +7,7 @@ use Rattle.scons_host.proofs.host.ReadingHostHost.attribute.Goals as goal
 pub returns-in-Ok-clause-ok : goal.returns-in-Ok-clause-ok
 returns-in-Ok-clause-ok g c =
     let h = c.args.self.now in
-    (refl, (serves_answered g.W.Disk.meaning g.O.Sink.meaning h.world.now h.world.now h.out.now h.kept.now (files_same g.W.Disk.meaning h.world.now) refl, c.attribute.ensures))
+    (refl, (serves_answered g.W.Disk.meaning g.O.Sink.meaning h.world.now h.world.now h.out.now h.kept.now (files_same g.W.Disk.meaning h.world.now) refl, c.attribute.ensures.stands))
 
 pub returns-in-Ok-clause-keeps : goal.returns-in-Ok-clause-keeps
 returns-in-Ok-clause-keeps g c =
@@ -23,4 +23,4 @@ pub returns-in-Err-clause-refused : goal.returns-in-Err-clause-refused
 returns-in-Err-clause-refused g c = λ e.
     let h = c.args.self.now in
     let is : c.refuse.result ≡ refusal.Host = cc in
-    (refl, (refuses_looked g.W.Disk.meaning g.O.Sink.meaning h.world.now h.world.now h.out.now h.kept.now c.refuse.new.kept c.from.result (files_same g.W.Disk.meaning h.world.now) (c.from.ensures (g.W.Disk.meaning.counts h.world.now)) (c.refuse.ensures.end is) (c.refuse.ensures.counted is), c.attribute.ensures))
+    (refl, (refuses_looked g.W.Disk.meaning g.O.Sink.meaning h.world.now h.world.now h.out.now h.kept.now c.refuse.new.kept c.from.result (files_same g.W.Disk.meaning h.world.now) (c.from.ensures (g.W.Disk.meaning.counts h.world.now)) (c.refuse.ensures.end is) (c.refuse.ensures.counted is), c.attribute.ensures.stands))

@@ -3,30 +3,10 @@ use Rattle.world_api.proofs.Looking.{files_same}
 use Rattle.scons_host.specs.Laws.{keeps_answered, serves_answered}
 use Rattle.scons_host.proofs.host.ReadingHostHost.name.Goals as goal
 
-pub returns-then-eq-clause-keeps : goal.returns-then-eq-clause-keeps
-returns-then-eq-clause-keeps g c =
-    let h = c.args.self.now in
-    (refl, keeps_answered g.W.Disk.meaning g.O.Sink.meaning h.world.now h.world.now h.out.now h.kept.now (files_same g.W.Disk.meaning h.world.now))
-
-pub returns-in_err-name-clause-keeps : goal.returns-in_err-name-clause-keeps
-returns-in_err-name-clause-keeps g c =
-    let h = c.args.self.now in
-    (refl, keeps_answered g.W.Disk.meaning g.O.Sink.meaning h.world.now h.world.now h.out.now h.kept.now (files_same g.W.Disk.meaning h.world.now))
-
 pub returns-clause-keeps : goal.returns-clause-keeps
 returns-clause-keeps g c =
     let h = c.args.self.now in
     (refl, keeps_answered g.W.Disk.meaning g.O.Sink.meaning h.world.now h.world.now h.out.now h.kept.now (files_same g.W.Disk.meaning h.world.now))
-
-pub returns-then-eq-clause-names : goal.returns-then-eq-clause-names
-returns-then-eq-clause-names g c =
-    let h = c.args.self.now in
-    (refl, serves_answered g.W.Disk.meaning g.O.Sink.meaning h.world.now h.world.now h.out.now h.kept.now (files_same g.W.Disk.meaning h.world.now) refl)
-
-pub returns-in_err-name-clause-names : goal.returns-in_err-name-clause-names
-returns-in_err-name-clause-names g c =
-    let h = c.args.self.now in
-    (refl, serves_answered g.W.Disk.meaning g.O.Sink.meaning h.world.now h.world.now h.out.now h.kept.now (files_same g.W.Disk.meaning h.world.now) refl)
 
 pub returns-clause-names : goal.returns-clause-names
 returns-clause-names g c =
