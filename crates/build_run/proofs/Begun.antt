@@ -1,11 +1,11 @@
 -- A job that starts is to have the record of its ticket.
-use Rattle.std.proofs.Common.{◌≡◌, ◌≢◌, ◌∙◌, ◌∷◌, List, [], Contains, Some, None, map, ap, false, inl, inr, refl, sym, subst}
+use Rattle.std.proofs.Common.{◌≡◌, ◌≢◌, ◌∙◌, ◌++◌, ◌∷◌, ℕ, List, [], Contains, Some, None, map, ap, false, inl, inr, refl, sym, subst}
 use Rattle.scons_base.specs.declared.ids.RuleId.{RuleId}
 use Rattle.deciders.specs.Records.{name_of}
 use Rattle.deciders.specs.declared.recorded.Rec.{Rec}
 use Rattle.sign_store.specs.Stores.{IsTicket, KeepsTickets}
 use Rattle.sign_store.specs.declared.store.Store.{Store}
-use Rattle.world_api.specs.Around.{Around, Running, IsRunningTarget, given_of}
+use Rattle.world_api.specs.Around.{Around, Entry, Running, Started, IsRunningTarget, given_of}
 use Rattle.world_api.specs.Calls.{Asks}
 use Rattle.world_api.specs.Counts.{Counts}
 use Rattle.world_api.specs.Laws.{HasOnlyNow}
@@ -21,6 +21,7 @@ use Rattle.turn_means.specs.Safety.{IsTicketOf}
 use Rattle.build_run.specs.Goings.{Launches}
 use Rattle.build_run.specs.Holds.{Busy}
 use Rattle.build_run.specs.Safe.{DecidesSafely, GoesSafely, HasOwnRecord, IsOverFiles, IsStartable, IsWeighedSome, SiteGoesSafely, StartsSafely}
+use Rattle.build_run.specs.Unmade.{HasNoMaker, HasOneMaker}
 use Rattle.build_run.specs.Watches.{Watch, Allows}
 use Rattle.build_run.specs.declared.site.Site.{Site}
 use Rattle.build_run.proofs.Clearing.{clears_around}
@@ -28,6 +29,7 @@ use Rattle.build_run.proofs.Goings.{told_here}
 use Rattle.build_run.proofs.Holding.{at_front, further, in_pushed}
 use Rattle.build_run.proofs.Safely.{safely_here}
 use Rattle.build_run.proofs.Stopping.{site_looked, site_then}
+use Rattle.build_run.proofs.Unmade.{first_started, since_more}
 use Rattle.build_run.proofs.Watching.{allows_on, may_put, same_met}
 
 -- the store alone is another, with the same tickets
@@ -69,6 +71,10 @@ own_launched k job counts old new rec store busy launch startable ticket work si
     | inr same ↦ subst (λ (r : Running). IsTicketOf k.setting new.met r rec) same ticket_of
   ];
   puts = may_put k old new (same_met old new (launch.starts.met ∙ launch.clears.met)) rec startable.allows.puts;
+  alone = λ h. since_more k.start old.log new.log (HasNoMaker k.path) (HasOneMaker k.path busy.hold.rule.0) (Started job counts)
+      (launch.starts.log ∙ ap (λ (l : List Entry). l ++ Started job counts ∷ []) launch.clears.log)
+      (λ entries none. subst (λ (i : ℕ). HasOneMaker k.path i (entries ++ Started job counts ∷ [])) id (first_started k.path entries job counts none))
+      (startable.allows.first h);
 }
   where
     over : IsOverFiles k.setting old rec
@@ -118,5 +124,5 @@ starts_behind m a mid b rule rec looks told first then allows k safe weighed =
     record {
       over = over_asked k.setting (m.around a.world.now) (m.around mid.world.now) rec (looks.around tells) before.over;
       allows = allows_on k (m.around a.world.now) (m.around mid.world.now)
-          (same_met (m.around a.world.now) (m.around mid.world.now) (looks.around tells).met) rec (allows tells k before);
+          (same_met (m.around a.world.now) (m.around mid.world.now) (looks.around tells).met) (looks.around tells).log rec (allows tells k before);
     }))

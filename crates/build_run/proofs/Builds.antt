@@ -12,6 +12,7 @@ use Rattle.rule_graph.specs.Graphs.{RuleGraph}
 use Rattle.rule_graph.specs.declared.build_fault.BuildFault.{BuildFault}
 use Rattle.rule_graph.specs.Rules.{are_below}
 use Rattle.sign_store.specs.Stores.{IsKept, map_of}
+use Rattle.sign_store.specs.Ends.{image_in}
 use Rattle.sign_store.specs.Tables.{Map}
 use Rattle.sign_store.specs.declared.store.Store.{Store}
 use Rattle.build_files.specs.declared.end.ListEnd.{ListEnd}
@@ -38,6 +39,7 @@ use Rattle.build_run.specs.Along.{is_faulted}
 use Rattle.build_run.specs.Ledgers.{Ledger, ledger_of, blank}
 use Rattle.build_run.specs.Output.{BuildPrints, MakesPrinted}
 use Rattle.build_run.specs.Outsets.{wanted_of, GoesByContent, BuildRuns, BuildSucceeds, HasMade, HasRun, HasSetOut, IsBlank, IsReadyFor, Leaves, MakesAll, SetsOut, SetsOutBehind, StandFor, StaysKept}
+use Rattle.build_run.specs.Forgetting.{HasForgotten}
 use Rattle.build_run.specs.Remembering.{HasRemembered}
 use Rattle.build_run.specs.Safe.{HasOutset, MakesSafely, TakesSafely}
 use Rattle.build_run.specs.Skips.{AreSkips, BuildSkips, MakesSkipping}
@@ -51,9 +53,10 @@ use Rattle.build_run.proofs.Unrecorded.{has_counted}
 use Rattle.build_run.proofs.BuildPrinting.{none_printed}
 use Rattle.build_run.proofs.StepTexts.{steps_printed}
 use Rattle.build_run.proofs.EndingOn.{not_before}
+use Rattle.build_run.proofs.Forgetting.{forgets_none, has_forgotten, watch_unmade}
 use Rattle.build_run.proofs.Remembering.{has_remembered}
 use Rattle.build_run.proofs.Safely.{safe_on}
-use Rattle.build_run.proofs.Stopped.{safe_first, unwatched}
+use Rattle.build_run.proofs.Stopped.{never_covers, none_watched, safe_first, unwatched}
 use Rattle.build_run.specs.declared.building.Options.{Options}
 use Rattle.build_run.specs.declared.end.BuildEnd.{BuildEnd}
 use Rattle.build_run.specs.declared.site.Run.{Run}
@@ -141,12 +144,16 @@ module _ {W : Type 0} (m : Meaning W) (g : RuleGraph) (requested : List NodeId) 
       pub has_outset : (k : Watch) → Covers k o → HasOutset m k h run mid b account options
       has_outset k covers = record { o = o; covers = covers; ready = ready }
 
+      pub has_unwatched : (s : Setting) → HasOutset m (unwatched s (m.around a).log) h run mid b account options
+      has_unwatched s = has_outset (unwatched s (m.around a).log) (never_covers s (m.around a).log o has.rest.log)
+
       -- as it began what stood was safe
       begun_safe : m.sure b → TellsTruth m (setting_in w (m.around a)) a → IsSafe (setting_in w (m.around a)) (m.around b) (map_of mid)
       begun_safe sure truth =
           let s = setting_in w (m.around a) in
-          let now = (safe (unwatched s) (λ t left. refl) (safe_first m (unwatched s) a rest (λ t u. record { acts = refl; digests = refl }) (λ e. truth)
-          (λ t banks image minds. absurd minds))).now tells sure in
+          let k = unwatched s (m.around a).log in
+          let now = (safe k (λ t left. refl) (safe_first m k a rest (λ t u. record { acts = refl; digests = refl }) (λ e. truth)
+          (λ t banks image. none_watched s (m.around a) (image_in banks)))).now tells sure in
           subst (λ (records : Map). IsSafe s (m.around b) records) (kept.each tells (m.seen b) (reads tells)).image
           (now.images refl (m.seen b) (reads tells))
 
@@ -224,6 +231,17 @@ module _ {W : Type 0} (m : Meaning W) (g : RuleGraph) (requested : List NodeId) 
             clean = λ truth by. well.succeeded.built (by_content tells sure below truth by);
           }
 
+    -- and what it forgot
+    pub build_forgets : Told m b c → MakesSafely m h run mid b account options c → (after : Account) (last : Store) →
+        MakesAll m h run mid b account options c after last → (m.tells c → IsImage m c (m.seen c)) → m.tells c → m.sure c →
+        are_below (length g.nodes) requested ≡ true → HasForgotten m a c
+    build_forgets told makes after last all reads_last tells sure below =
+        let here = told.told tells in
+        let behind = has here below in
+        has_forgotten m w a c rest tells sure (reads_last tells) behind.left (map_of mid) (record { reading = read; below = below }) behind.rest.log
+        (all tells sure (o here below) (ready here below)).runs
+        (λ k goes covers first. safe_on m k a b c told (safe k (λ t left. goes) first) (makes k (λ t u. has_outset here below k covers)))
+
     -- and what was recorded at every moment of it
     pub build_remembers : IsKept m a store → Told m b c → MakesSafely m h run mid b account options c → m.tells c → m.sure c →
         are_below (length g.nodes) requested ≡ true → HasRemembered m w (map_of store) a c
@@ -294,6 +312,12 @@ module _ {W : Type 0} (m : Meaning W) (g : RuleGraph) (requested : List NodeId) 
   refused_remembers stands back leaves safe tells below =
       has_remembered m w read below store a c rest stands (m.around c) (map_of mid) (leaves tells (rest (back tells))) ⊥
       (λ k left covers first. safe k left first) (λ went. absurd went)
+
+  pub refused_forgets : (m.tells c → m.tells a) → Leaves m a store c mid (IsLeftAt g (m.around a) (map_of store)) →
+      TakesSafely m (IsLeftAt g (m.around a) (map_of store)) a c → IsImage m c (m.seen c) → m.tells c → m.sure c → HasForgotten m a c
+  refused_forgets back leaves safe reads tells sure =
+      forgets_none m w a c rest tells sure reads (λ path first. safe (watch_unmade m w a path) (λ t left. refl) first)
+      (leaves tells (rest (back tells))).log
 
   pub build_refused : (m.tells c → m.tells a) → Leaves m a store c mid (IsLeftAt g (m.around a) (map_of store)) → (answer : BuildEnd) →
       answer.is_ended ≡ true → BuildRuns m w (map_of store) a c (map_of mid) answer

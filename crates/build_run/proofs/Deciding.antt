@@ -1,23 +1,27 @@
 -- The record of a rule that is decided is that of what its dependencies hold: so the rule starts safely.
-use Rattle.std.proofs.Common.{◌≡◌, ◌∙◌, ◌<◌, ℕ, true, List, Contains, Some, None, map, map-id, inl, length, ap, refl, sym, subst}
+use Rattle.std.proofs.Common.{◌≡◌, ◌∙◌, ◌++◌, ◌<◌, ℕ, true, List, Contains, Some, None, map, map-id, inl, length, ap, refl, sym, subst}
 use Rattle.std.proofs.lemmas.Simd.{map-map}
 use Rattle.scons_base.specs.declared.ids.RuleId.{RuleId}
 use Rattle.deciders.specs.Records as kept
 use Rattle.deciders.specs.declared.recorded.Rec.{Rec}
-use Rattle.world_api.specs.Around.{IsRunningTarget, given_of}
+use Rattle.world_api.specs.Around.{Entry, IsRunningTarget, Started, given_of}
+use Rattle.world_api.specs.Counts.{Counts}
 use Rattle.world_api.specs.Looks.{Looks}
 use Rattle.world_api.specs.Meaning.{Meaning, Told}
 use Rattle.world_api.specs.Reads.{stamp_of}
+use Rattle.world_api.specs.declared.job.Job.{Job}
 use Rattle.task_plan.specs.declared.want.Want.TheVariants as want
 use Rattle.build_model.specs.Rules.{Path, Bytes, Content, Digest, Rule, Record, Dependency, Setting, Among}
 use Rattle.build_model.specs.Contents.{in_tree}
 use Rattle.build_model.specs.Moments.{Job as Given}
 use Rattle.build_model.specs.Records.{dependency_of, digest_by, digested, named_digest}
 use Rattle.build_model.specs.Stale.{name_of}
-use Rattle.build_model.specs.Steps.{Step, IsReady, present_dependencies, present_record, settled}
+use Rattle.build_model.specs.Steps.{Step, IsReady, began, present_dependencies, present_record, settled}
 use Rattle.build_model.proofs.Lists.{same_map}
 use Rattle.build_model.proofs.Runs.{settled_done}
-use Rattle.build_means.specs.Builds.{jobs_at_once}
+use Rattle.build_means.specs.Builds.{IsJobIn, jobs_at_once}
+use Rattle.build_means.specs.Logs.{AreUnrisen, IsLogged}
+use Rattle.build_means.proofs.Logging.{each_start}
 use Rattle.build_means.specs.Records.{dependency_in, record_in}
 use Rattle.run_means.specs.Ways.{IsWay}
 use Rattle.run_means.proofs.Lists.{contains_among}
@@ -25,7 +29,7 @@ use Rattle.turn_means.specs.Laws.{IsChosen, IsWeighed, is_due_now}
 use Rattle.turn_means.specs.Recording.{build_at}
 use Rattle.turn_means.specs.Standing.{Outset, IsOutset, setting_at, Standing, Knows}
 use Rattle.turn_means.proofs.Deciding.{decided, makes, may_begin, record_is}
-use Rattle.turn_means.proofs.Running.{ready_still}
+use Rattle.turn_means.proofs.Running.{begun_place, makes_each, one_rule, ready_still}
 use Rattle.build_run.specs.Along.{IsAlong, IsDue, standing_of}
 use Rattle.build_run.specs.Outs.{ShareNone}
 use Rattle.build_run.specs.Safe.{DecidesSafely, IsOfLaw, IsOverFiles, SiteGoesSafely, TurnsSafelyAs}
@@ -110,8 +114,13 @@ module _ {W O E : Type 0} (m : Meaning W) where
       is_due_now (standing_of m site) due.model rec ≡ true → length (m.around site.world.now).running < jobs_at_once o.wanted.jobs →
       (k : Watch) → Covers k o → Allows k (m.around site.world.now) rec
   due_allows o outset site along rule rec due is_due room k covers = record {
-    goes = λ minds made. (covers due.model starts minds (among made)).0;
-    puts = λ minds made. (covers due.model starts minds (among made)).1 ∙ ap Some (sym is);
+    goes = λ minds made. (covers.each due.model starts minds (among made)).0;
+    puts = λ minds made. (covers.each due.model starts minds (among made)).1 ∙ ap Some (sym is);
+    first = λ made. record {
+      entries = log.entries;
+      grown = log.grown ∙ ap (λ (l : List Entry). l ++ log.entries) covers.start;
+      so = λ job counts started target. not_started job counts started (among made) target;
+    };
   }
     where
       s : Standing
@@ -131,6 +140,21 @@ module _ {W O E : Type 0} (m : Meaning W) where
         way = along.on.at.way;
         may = may_begin o outset along.on.jobs s along.on.past along.on.at.way known rule due.model rec due.weighed is_due room;
       }
+
+      log : IsLogged (IsJobIn o.wanted o.kept o.before s.around) (AreUnrisen o.wanted.keep o.counts) along.on.past o.before.log s.around.log
+      log = along.on.at.way.log
+
+      -- a rule that may start didn't begin before
+      not_started : (job : Job) (counts : Counts) → Among (Started job counts) log.entries → Among k.path due.model.targets → Contains job.targets k.path → ⊥
+      not_started job counts started own target =
+          let begun = each_start (IsJobIn o.wanted o.kept o.before s.around) (AreUnrisen o.wanted.keep o.counts) log.are started in
+          let place = begun_place o outset along.on.jobs s.around along.on.past along.on.at.way begun.stands in
+          let other = makes_each o outset place.0 place.1 k.path
+          (contains_among begun.rule.targets (subst (λ (paths : List Path). Contains paths k.path) begun.of_rule.targets target)) in
+          let same = one_rule o outset k.path other
+          (makes o outset along.on.jobs s along.on.past along.on.at.way known rule due.model rec due.weighed k.path own) in
+          (decided o outset along.on.jobs s along.on.past along.on.at.way known rule due.model rec due.weighed).not_began
+          (subst (λ (r : Rule). Among r (began along.on.past)) same begun.stands)
 
       among : Contains rec.targets k.path → Among k.path due.model.targets
       among made = contains_among due.model.targets

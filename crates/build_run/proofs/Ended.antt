@@ -1,9 +1,9 @@
 -- What tickets are for, over the ending of a job.
-use Rattle.std.proofs.Common.{◌≡◌, ◌∙◌, ◌++◌, ◌∷◌, List, [], Contains, Some, None, false, arith, inl, inr, sym, subst}
+use Rattle.std.proofs.Common.{◌≡◌, ◌∙◌, ◌++◌, ◌∷◌, ℕ, List, [], Contains, Some, None, false, arith, inl, inr, sym, subst}
 use Rattle.std.proofs.lemmas.List.Elements.{Contains-append_right}
 use Rattle.sign_store.specs.Stores.{KeepsTickets}
 use Rattle.sign_store.specs.declared.store.Store.{Store}
-use Rattle.world_api.specs.Around.{Around, Running, IsRunningTarget}
+use Rattle.world_api.specs.Around.{Around, Running, Finished, IsRunningTarget}
 use Rattle.world_api.specs.Calls.{Ends}
 use Rattle.world_api.specs.Laws.{EndsJob}
 use Rattle.world_api.specs.Meaning.{Meaning, Told}
@@ -19,11 +19,13 @@ use Rattle.build_run.specs.Along.{HoldsFewer}
 use Rattle.build_run.specs.Holds.{Busy, hold_of, holds_in, holds_of}
 use Rattle.build_run.specs.Outs.{IsBeside}
 use Rattle.build_run.specs.Safe.{AreSafeIn, HasOwnRecord, HasTrueRecord, IsSafeNow}
+use Rattle.build_run.specs.Unmade.{HasOneMaker, IsNotUnmade}
 use Rattle.build_run.specs.Watches.{Watch}
 use Rattle.build_run.specs.declared.account.Account.{Account}
 use Rattle.build_run.specs.declared.tickets.Hold.{Hold}
 use Rattle.build_run.proofs.Holding.{at_front, further, in_front, in_pushed}
 use Rattle.build_run.proofs.Stopping.{same_tickets}
+use Rattle.build_run.proofs.Unmade.{alone_ended, done_ended, made_ended, since_more}
 use Rattle.build_run.proofs.Watching.{may_put}
 
 module _ (k : Watch) (ended : Ended) (old new : Around) (store after : Store) (keeps : KeepsTickets store after)
@@ -45,6 +47,8 @@ module _ (k : Watch) (ended : Ended) (old new : Around) (store after : Store) (k
     true_now = true_stays k.setting old new t.rec t.true_now ends.met (λ path h. ends.files path (t.true_now.still path h))
         (λ path h target. t.true_now.still path h (ran_before path target));
     puts = may_put k old new ends.met t.rec t.puts;
+    made = λ h. since_more k.start old.log new.log (IsNotUnmade k.path) (IsNotUnmade k.path) (Finished ended.id ended.outcome) ends.log
+        (λ entries. made_ended k.path entries ended.id ended.outcome) (t.made h);
   }
 
   pub own_ended : ((run : Running) → Contains new.running run → Contains old.running run) → HasOwnRecord k store old busy → HasOwnRecord k after new busy
@@ -62,6 +66,8 @@ module _ (k : Watch) (ended : Ended) (old new : Around) (store after : Store) (k
           each_met = λ x n. met_later x.1 (own.each_met x n);
         };
     puts = may_put k old new ends.met t.rec t.puts;
+    alone = λ h. since_more k.start old.log new.log (HasOneMaker k.path busy.hold.rule.0) (HasOneMaker k.path busy.hold.rule.0)
+        (Finished ended.id ended.outcome) ends.log (λ entries. alone_ended k.path entries ended.id ended.outcome busy.hold.rule.0) (t.alone h);
   }
 
   -- a rule whose action was done has its record
@@ -75,6 +81,9 @@ module _ (k : Watch) (ended : Ended) (old new : Around) (store after : Store) (k
     true_now = done_true k.setting ended old new t.rec ends done acts (t.each ends.which which_ran (sym ends.id ∙ id))
         (λ path h. still path (subst (λ (all : List Path). Contains all path) t.targets h));
     puts = may_put k old new ends.met t.rec t.puts;
+    made = λ h. since_more k.start old.log new.log (HasOneMaker k.path busy.hold.rule.0) (IsNotUnmade k.path) (Finished ended.id ended.outcome) ends.log
+        (λ entries one. done_ended k.path entries ended.id ended.outcome done
+        (subst (λ (i : ℕ). HasOneMaker k.path i entries) (sym id) one)) (t.alone h);
   }
     where
       which_ran : Contains old.running ends.which

@@ -46,3 +46,5 @@ mod Reporting
 mod StepTexts
 mod Endings
 mod Unrecorded
+mod Unmade
+mod Forgetting

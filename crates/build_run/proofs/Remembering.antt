@@ -29,6 +29,7 @@ use Rattle.build_run.specs.Truth.{TellsTruth}
 use Rattle.build_run.specs.Watches.{Always, Covers, MayHave, MayStart, Minds, Scope, Watch, WhileDistinct}
 use Rattle.build_run.proofs.Starts.{clean_then, needed_then, stale_then}
 use Rattle.build_run.proofs.Stopped.{safe_first}
+use Rattle.build_run.proofs.Unmade.{since_here}
 
 -- ---- what may be found
 
@@ -54,7 +55,7 @@ found_so : {W : Type 0} (m : Meaning W) (k : Watch) (old new : W) (IsSo : Around
 found_so m k old new IsSo so stays = surely m old new (λ around banks. IsSo around (image_in banks k.path))
     (weakens m old new (λ around banks. m.sure new → IsKeptMoment k around banks) (λ around banks. m.sure new → IsSo around (image_in banks k.path))
     (throughout m old new (IsKeptMoment k) stays.moments)
-    (λ t around banks kept sure. so around (image_in banks k.path) (kept sure).watched))
+    (λ t around banks kept sure. so around (image_in banks k.path) (kept sure).watched.may))
 
 -- ---- builds
 
@@ -74,13 +75,25 @@ module _ {W : Type 0} (m : Meaning W) (w : Wanted) (reading : IsReading w.graph)
 
   abbrev watch : Path → Bool → Scope → Bool → Option Record → Watch
   watch path truth scope goes due =
-      record { setting = setting_in w (m.around a); truth = truth; scope = scope; path = path; had = map_of store path; goes = goes; due = due }
+      record {
+        setting = setting_in w (m.around a);
+        start = (m.around a).log;
+        truth = truth;
+        scope = scope;
+        path = path;
+        had = map_of store path;
+        goes = goes;
+        due = due;
+      }
 
   first : (path : Path) (truth : Bool) (scope : Scope) (goes : Bool) (due : Option Record) →
       (truth ≡ true → TellsTruth m (setting_in w (m.around a)) a) → IsSafeNow m (watch path truth scope goes due) a
   first path truth scope goes due tells_truth = safe_first m (watch path truth scope goes due) a idle
       (λ t sure. record { acts = refl; digests = refl }) tells_truth
-      (λ t banks image minds. MayHave.had_before (ap (λ (map : Map). map path) (stands.each t banks image).image))
+      (λ t banks image. record {
+        may = λ minds. MayHave.had_before (ap (λ (map : Map). map path) (stands.each t banks image).image);
+        none = since_here (m.around a).log path (image_in banks path);
+      })
 
   pub has_remembered : HasRemembered m w (map_of store) a c
   has_remembered = record {
@@ -90,40 +103,55 @@ module _ {W : Type 0} (m : Meaning W) (w : Wanted) (reading : IsReading w.graph)
     others = λ path unleft none.
         let k = watch path false Always false None in
         found_so m k a c (λ around found. found ≡ map_of store path) (λ around found has. only_had k found refl refl (has tt))
-        (stays k (λ t is. absurd (unleft is)) (λ went r starts minds among. absurd (none r starts among))
+        (stays k (λ t is. absurd (unleft is)) (λ went. record { start = rest.log; each = λ r starts minds among. absurd (none r starts among) })
         (first path false Always false None (λ e. true_false (sym e))));
     leftovers = λ path is_left none.
         let k = watch path false Always true None in
         found_so m k a c (λ around found. (found ≡ map_of store path) ⊎ (found ≡ None)) (λ around found has. had_or_none k found refl (has tt))
-        (stays k (λ t is. refl) (λ went r starts minds among. absurd (none r starts among))
+        (stays k (λ t is. refl) (λ went. record { start = rest.log; each = λ r starts minds among. absurd (none r starts among) })
         (first path false Always true None (λ e. true_false (sym e))));
     spared = λ truth decider path unleft none.
         let k = watch path true WhileDistinct false None in
         found_so m k a c (λ around found. AreDistinct (setting_in w left) around.met → found ≡ map_of store path)
         (λ around found has distinct. only_had k found refl refl (has distinct))
         (stays k (λ t is. absurd (unleft is))
-        (λ went r starts minds among. absurd (none r (record {
-          needed = needed_then o outset r starts (sound went truth starts.around starts.way.met) minds decider;
-          is_stale = stale_then o outset r starts (sound went truth starts.around starts.way.met) minds decider;
-          among = among;
-        })))
+        (λ went. record { start = rest.log; each = λ r starts minds among. absurd (none r (stale_made truth decider path went r starts minds among)) })
         (first path true WhileDistinct false None (λ e. truth)));
+    spared_leftovers = λ truth decider path is_left none.
+        let k = watch path true WhileDistinct true None in
+        found_so m k a c (λ around found. AreDistinct (setting_in w left) around.met → (found ≡ map_of store path) ⊎ (found ≡ None))
+        (λ around found has distinct. had_or_none k found refl (has distinct))
+        (stays k (λ t is. refl)
+        (λ went. record { start = rest.log; each = λ r starts minds among. absurd (none r (stale_made truth decider path went r starts minds among)) })
+        (first path true WhileDistinct true None (λ e. truth)));
     made = λ truth decider path r is.
         let due = clean_record (graph_in w left) (build_in w kept left left) r in
         let k = watch path true WhileDistinct true (Some due) in
         found_so m k a c (λ around found. AreDistinct (setting_in w left) around.met → IsOneOf (map_of store path) due found)
         (λ around found has distinct. is_one k due found refl (has distinct))
         (stays k (λ t is. refl)
-        (λ went q starts minds among.
-        let so = sound went truth starts.around starts.way.met in (
-          refl,
-          ap (λ (x : Rule). Some (clean_record (graph_in w left) (build_in w kept left left) x))
-              (same_rule path r q is (needed_then o outset q starts so minds decider) among)
-              ∙ ap Some (sym (clean_then o outset q starts so minds decider)),
-        ))
+        (λ went. record {
+          start = rest.log;
+          each = λ q starts minds among.
+              let so = sound went truth starts.around starts.way.met in (
+                refl,
+                ap (λ (x : Rule). Some (clean_record (graph_in w left) (build_in w kept left left) x))
+                    (same_rule path r q is (needed_then o outset q starts so minds decider) among)
+                    ∙ ap Some (sym (clean_then o outset q starts so minds decider)),
+              );
+        })
         (first path true WhileDistinct true (Some due) (λ e. truth)));
   }
     where
+      -- what may start and makes a path is needed and stale
+      stale_made : TellsTruth m (setting_in w (m.around a)) a → AllByContent w kept left → (path : Path) → Went → (r : Rule) (starts : MayStart o r) →
+          AreDistinct (setting_in w left) starts.around.met → Among path r.targets → IsMadeStale w kept left path r
+      stale_made truth decider path went r starts minds among = record {
+        needed = needed_then o outset r starts (sound went truth starts.around starts.way.met) minds decider;
+        is_stale = stale_then o outset r starts (sound went truth starts.around starts.way.met) minds decider;
+        among = among;
+      }
+
       same_rule : (path : Path) (r q : Rule) → IsMadeStale w kept left path r →
           IsNeeded (graph_in w left) (build_in w kept left left) q → Among path q.targets → r ≡ q
       same_rule path r q is needed among =

@@ -4,7 +4,7 @@ use Rattle.sign_store.specs.Ends.{IsEither, image_in}
 use Rattle.sign_store.specs.Stores.{IsKept, map_of}
 use Rattle.sign_store.specs.Tables.{Map}
 use Rattle.sign_store.specs.declared.store.Store.{Store}
-use Rattle.world_api.specs.Around.{Around}
+use Rattle.world_api.specs.Around.{Around, Started, Finished}
 use Rattle.world_api.specs.Banks.{Banks}
 use Rattle.world_api.specs.Calls.{Asks, Ends, Grows, MakesDir, Removes}
 use Rattle.world_api.specs.Laws.{EndsJob, StartsJob, HasOnlyNow}
@@ -19,8 +19,10 @@ use Rattle.turn_means.specs.Recording.{HaveNone}
 use Rattle.turn_means.specs.Safety.{IsSafe}
 use Rattle.turn_means.proofs.Safety.{calls, stop}
 use Rattle.build_run.specs.Safe.{GoesSafely, IsKeptMoment, IsOfLaw, IsSafeNow, IsSafeWorld, StaysSafe, TakesSafely}
+use Rattle.build_run.specs.Unmade.{HasNoneUnmade, Since}
 use Rattle.build_run.specs.Watches.{Watch, IsWatched}
-use Rattle.build_run.proofs.Watching.{same_met, watched_on}
+use Rattle.build_run.proofs.Unmade.{none_ended, none_started, since_more, since_same}
+use Rattle.build_run.proofs.Watching.{same_met, watched_by, watched_on}
 
 -- what is safe is so wherever it is stopped
 pub moment : (k : Watch) (around : Around) (banks : Banks) → (k.truth ≡ true → IsSafe k.setting around (image_in banks)) →
@@ -42,7 +44,7 @@ module _ {W : Type 0} (m : Meaning W) (k : Watch) where
       IsKeptMoment k a banks
   asked_moment world safe a banks asks image =
       moment k a banks (λ truth. (calls k.setting (image_in banks)).looks (m.around world) a asks (safe.images truth banks image))
-      (watched_on k (m.around world) a (same_met (m.around world) a asks.met) (image_in banks) (safe.watched banks image))
+      (watched_on k (m.around world) a (same_met (m.around world) a asks.met) asks.log (image_in banks) (safe.watched banks image))
 
   here_moment : (world : W) → IsSafeWorld m k world → (banks : Banks) → IsImage m world banks → IsKeptMoment k (m.around world) banks
   here_moment world safe banks image = moment k (m.around world) banks (λ truth. safe.images truth banks image) (safe.watched banks image)
@@ -71,17 +73,27 @@ module _ {W : Type 0} (m : Meaning W) (k : Watch) where
     now = now;
   }
 
+  -- what is so of the watched path while it is unmade
+  abbrev HasNone : W → Banks → Type 0
+  HasNone world banks = Since k.start (m.around world).log (HasNoneUnmade k.path (image_in banks k.path))
+
+  none_same : (old new : W) → (m.tells new → (m.around new).log ≡ (m.around old).log) → m.tells new → (banks : Banks) → HasNone old banks → HasNone new banks
+  none_same old new same t banks none =
+      since_same k.start (m.around old).log (m.around new).log (HasNoneUnmade k.path (image_in banks k.path)) (same t) none
+
   -- what no call on the banks changes
   pub safe_by : (old new : W) → Told m old new → (m.tells new → BanksKept m old new) → (m.tells new → (m.around new).law ≡ (m.around old).law) →
       (m.tells new → Grows (m.around old).met (m.around new).met) →
       (m.tells new → m.sure new → (banks : Banks) → IsImage m old banks → IsSafe k.setting (m.around old) (image_in banks) →
       IsSafe k.setting (m.around new) (image_in banks)) →
+      (m.tells new → (banks : Banks) → IsImage m old banks → HasNone old banks → HasNone new banks) →
       IsSafeNow m k old → IsSafeNow m k new
-  safe_by old new told kept law grows by safe tells sure = record {
+  safe_by old new told kept law grows by none safe tells sure = record {
     of = law_on k.setting (m.around old) (m.around new) (law tells) was.of;
     images = λ truth banks image. by tells sure banks (before banks image) (was.images truth banks (before banks image));
     watched = λ banks image.
-        watched_on k (m.around old) (m.around new) (grows tells) (image_in banks) (was.watched banks (before banks image));
+        let watched = was.watched banks (before banks image) in
+        watched_by k (m.around old) (m.around new) (grows tells) (image_in banks) (none tells banks (before banks image) watched.none) watched;
   }
     where
       was : IsSafeWorld m k old
@@ -95,28 +107,37 @@ module _ {W : Type 0} (m : Meaning W) (k : Watch) where
     pub safe_asked : (m.tells new → Asks (m.around old) (m.around new)) → StaysSafe m k old new
     safe_asked asks = safe_call old new told time safe (safe_by old new told kept (λ t. (asks t).law)
         (λ t. same_met (m.around old) (m.around new) (asks t).met)
-        (λ t sure banks image was. (calls k.setting (image_in banks)).looks (m.around old) (m.around new) (asks t) was) safe)
+        (λ t sure banks image was. (calls k.setting (image_in banks)).looks (m.around old) (m.around new) (asks t) was)
+        (λ t banks image. none_same old new (λ s. (asks s).log) t banks) safe)
 
     pub safe_made : (dir : Path) → (m.tells new → MakesDir dir (m.around old) (m.around new)) → StaysSafe m k old new
     safe_made dir makes = safe_call old new told time safe (safe_by old new told kept (λ t. (makes t).law)
         (λ t. same_met (m.around old) (m.around new) (makes t).met)
-        (λ t sure banks image was. (calls k.setting (image_in banks)).makes_dir dir (m.around old) (m.around new) (makes t) was) safe)
+        (λ t sure banks image was. (calls k.setting (image_in banks)).makes_dir dir (m.around old) (m.around new) (makes t) was)
+        (λ t banks image. none_same old new (λ s. (makes s).log) t banks) safe)
 
     pub safe_removed : (path : Path) → (m.tells new → Removes path (m.around old) (m.around new)) → StaysSafe m k old new
     safe_removed path removes = safe_call old new told time safe (safe_by old new told kept (λ t. (removes t).law)
         (λ t. same_met (m.around old) (m.around new) (removes t).met)
-        (λ t sure banks image was. (calls k.setting (image_in banks)).removes path (m.around old) (m.around new) (removes t) was) safe)
+        (λ t sure banks image was. (calls k.setting (image_in banks)).removes path (m.around old) (m.around new) (removes t) was)
+        (λ t banks image. none_same old new (λ s. (removes s).log) t banks) safe)
 
     pub safe_started : (job : Job) → (m.tells new → StartsJob m job old new) →
         (m.tells new → (banks : Banks) → IsImage m old banks → HaveNone job.targets (image_in banks)) → StaysSafe m k old new
     safe_started job starts none = safe_call old new told time safe (safe_by old new told kept (λ t. (starts t).law)
         (λ t. same_met (m.around old) (m.around new) (starts t).met)
         (λ t sure banks image was.
-        (calls k.setting (image_in banks)).starts job (m.counts old) (m.around old) (m.around new) (starts t) (none t banks image) was) safe)
+        (calls k.setting (image_in banks)).starts job (m.counts old) (m.around old) (m.around new) (starts t) (none t banks image) was)
+        (λ t banks image was. since_more k.start (m.around old).log (m.around new).log
+        (HasNoneUnmade k.path (image_in banks k.path)) (HasNoneUnmade k.path (image_in banks k.path)) (Started job (m.counts old)) (starts t).log
+        (λ entries h. none_started k.path entries job (m.counts old) (image_in banks k.path) (λ makes. none t banks image k.path makes) h) was) safe)
 
     pub safe_ended : (ended : Ended) → (m.tells new → EndsJob m ended old new) → StaysSafe m k old new
     safe_ended ended ends = safe_call old new told time safe (safe_by old new told kept (λ t. (ends t).law) (λ t. (ends t).met)
-        (λ t sure banks image was. (calls k.setting (image_in banks)).ends ended (m.around old) (m.around new) (surely_ended t sure) was) safe)
+        (λ t sure banks image was. (calls k.setting (image_in banks)).ends ended (m.around old) (m.around new) (surely_ended t sure) was)
+        (λ t banks image was. since_more k.start (m.around old).log (m.around new).log
+        (HasNoneUnmade k.path (image_in banks k.path)) (HasNoneUnmade k.path (image_in banks k.path)) (Finished ended.id ended.outcome) (ends t).log
+        (λ entries h. none_ended k.path entries ended.id ended.outcome (image_in banks k.path) h) was) safe)
       where
         surely_ended : m.tells new → m.sure new → Ends (Unit {0}) ended (m.around old) (m.around new)
         surely_ended t sure =
@@ -166,7 +187,8 @@ module _ {W : Type 0} (m : Meaning W) (k : Watch) where
       after : IsSafeNow m k new
       after = safe_by old new looks.told looks.banks (λ t. (looks.around t).law)
           (λ t. same_met (m.around old) (m.around new) (looks.around t).met)
-          (λ t sure banks image was. (calls k.setting (image_in banks)).looks (m.around old) (m.around new) (looks.around t) was) safe
+          (λ t sure banks image was. (calls k.setting (image_in banks)).looks (m.around old) (m.around new) (looks.around t) was)
+          (λ t banks image. none_same old new (λ s. (looks.around s).log) t banks) safe
 
   -- calls on the store: the banks stand for its map or for another one that is safe as well, and has of the watched path what it may
   pub safe_stored : HasOnlyNow m → ((w : W) → m.tells w → IsImage m w (m.seen w)) → (old new : W) (store : Store) (after : Map) → Told m old new →

@@ -8,7 +8,7 @@ use Rattle.sign_store.specs.Ends.{IsEither}
 use Rattle.sign_store.specs.Stores.{IsKept, KeepsTickets, map_of}
 use Rattle.sign_store.specs.Tables.{Map, is_among, with_each}
 use Rattle.sign_store.specs.declared.store.Store.{Store}
-use Rattle.world_api.specs.Around.{Around, Running, IsRunningTarget, given_of}
+use Rattle.world_api.specs.Around.{Around, Running, Started, IsRunningTarget, given_of}
 use Rattle.world_api.specs.Calls.{Starts}
 use Rattle.world_api.specs.Counts.{Counts}
 use Rattle.world_api.specs.Laws.{HasOnlyNow, StartsJob}
@@ -26,6 +26,7 @@ use Rattle.build_run.specs.Goings.{ClearsAt}
 use Rattle.build_run.specs.Holds.{Busy, KeepsApart, holds_in}
 use Rattle.build_run.specs.Outs.{ShareNone}
 use Rattle.build_run.specs.Safe.{AreSafe, AreSafeIn, GoesSafely, HasOwnRecord, HasTrueRecord, IsSafeSite, SiteGoesSafely, SiteStaysSafe, SiteTakesSafely}
+use Rattle.build_run.specs.Unmade.{HasOneMaker, IsNotUnmade}
 use Rattle.build_run.specs.Watches.{Watch, IsWatched, MayGo}
 use Rattle.build_run.specs.Withdrawals.{HasNone}
 use Rattle.build_run.specs.declared.account.Account.{Account}
@@ -37,6 +38,7 @@ use Rattle.build_run.proofs.Goings.{told_here}
 use Rattle.build_run.proofs.Holding.{at_front, further, in_front, in_pushed}
 use Rattle.build_run.proofs.Outs.{held_in}
 use Rattle.build_run.proofs.Safely.{safe_on, safe_stored, safely_here}
+use Rattle.build_run.proofs.Unmade.{alone_started, made_started, since_more, since_same}
 use Rattle.build_run.proofs.Watching.{may_go, may_put, same_met, watched_put}
 
 -- ---- paths among others
@@ -73,7 +75,7 @@ put_watched k around store [] map each watched = watched
 put_watched k around store (one ∷ more) map each watched =
     let t = each one (at_front more one) in
     put_watched k around store more _ (λ busy h. each busy (further more one busy h))
-    (subst (λ o. IsWatched k around (with_put o map)) (sym t.is.held.record_at) (watched_put k around t.rec map t.puts watched))
+    (subst (λ o. IsWatched k around (with_put o map)) (sym t.is.held.record_at) (watched_put k around t.rec map t.puts t.made watched))
 
 pub unset_safe : (s : Setting) (around : Around) (targets : List Path) (map : Map) → IsSafe s around map → IsSafe s around (with_each targets None map)
 unset_safe s around targets map safe = (calls s map).fewer around (with_each targets None map) (λ path. by path (is_among targets path)) safe
@@ -98,6 +100,7 @@ module _ (k : Watch) (paths : List Path) (old new : Around) (store after : Store
         (λ path h. clears.files path (t.true_now.still path h) (λ among. apart path among (subst (λ (all : List Path). Contains all path) t.targets h)))
         (λ path h target. t.true_now.still path h (subst (λ (runs : List Running). IsRunningTarget runs path) clears.running target));
     puts = may_put k old new met_on t.rec t.puts;
+    made = λ h. since_same k.start old.log new.log (IsNotUnmade k.path) clears.log (t.made h);
   }
 
   own_cleared : HasOwnRecord k store old busy → HasOwnRecord k after new busy
@@ -108,6 +111,7 @@ module _ (k : Watch) (paths : List Path) (old new : Around) (store after : Store
     each = λ run h id. subst (λ (met : List (List ℕ)). IsTicketOf k.setting met run t.rec) (sym clears.met)
         (t.each run (subst (λ (runs : List Running). Contains runs run) clears.running h) id);
     puts = may_put k old new met_on t.rec t.puts;
+    alone = λ h. since_same k.start old.log new.log (HasOneMaker k.path busy.hold.rule.0) clears.log (t.alone h);
   }
 
 -- where files of these paths alone change, and none that is held is made there
@@ -243,19 +247,24 @@ module _ (k : Watch) (job : Job) (counts : Counts) (old new : Around) (store : S
           | inr among ↦ apart path among (subst (λ (all : List Path). Contains all path) t.targets h)
         ]);
     puts = may_put k old new met_still t.rec t.puts;
+    made = λ h. since_more k.start old.log new.log (IsNotUnmade k.path) (IsNotUnmade k.path) (Started job counts) starts.log
+        (λ entries. made_started k.path entries job counts (λ among. apart k.path among (subst (λ (all : List Path). Contains all k.path) t.targets h))) (t.made h);
   }
 
-  pub own_started : busy.hold.rule.0 ≢ job.id → HasOwnRecord k store old busy → HasOwnRecord k store new busy
-  own_started other t = record {
+  pub own_started : KeepsApart job busy.hold → HasOwnRecord k store old busy → HasOwnRecord k store new busy
+  own_started apart t = record {
     rec = t.rec;
     is = t.is;
     targets = t.targets;
     each = λ run h id. elim (in_pushed old.running (record { job = job; given = given_of old.tree job.deps }) run
         (subst (λ (runs : List Running). Contains runs run) starts.running h)) [
           | inl before ↦ subst (λ (met : List (List ℕ)). IsTicketOf k.setting met run t.rec) (sym starts.met) (t.each run before id)
-          | inr same ↦ absurd (other (sym id ∙ ap (λ (r : Running). r.job.id) (sym same)))
+          | inr same ↦ absurd (apart.new_id (sym id ∙ ap (λ (r : Running). r.job.id) (sym same)))
         ];
     puts = may_put k old new met_still t.rec t.puts;
+    alone = λ h. since_more k.start old.log new.log (HasOneMaker k.path busy.hold.rule.0) (HasOneMaker k.path busy.hold.rule.0) (Started job counts) starts.log
+        (λ entries. alone_started k.path entries job counts busy.hold.rule.0
+        (λ among. apart.made k.path among (subst (λ (all : List Path). Contains all k.path) t.targets h))) (t.alone h);
   }
 
 -- a job started, or was refused
@@ -271,7 +280,7 @@ module _ {W O E : Type 0} (m : Meaning W) (a b : Site W O E) (job : Job) where
         held = λ opened busy h. true_started k job (m.counts a.world.now) (m.around a.world.now) (m.around b.world.now) a.store.now (starts tells) busy
             (beside busy h) (before.held (unshut opened) busy h);
         tickets = λ busy h. own_started k job (m.counts a.world.now) (m.around a.world.now) (m.around b.world.now) a.store.now (starts tells) busy
-            (apart busy.hold (held_in a.run.now.tickets busy h)).new_id (before.tickets busy h);
+            (apart busy.hold (held_in a.run.now.tickets busy h)) (before.tickets busy h);
       }))
 
   pub site_begun : {T : Type 0} (r : Result T ListEnd) → Told m a.world.now b.world.now → GoesSafely m a.world.now b.world.now →

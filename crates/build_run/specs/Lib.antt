@@ -24,3 +24,5 @@ pub mod Watches
 pub mod Whys
 pub mod Endings
 pub mod Unrecorded
+pub mod Unmade
+pub mod Forgetting

@@ -62,6 +62,10 @@ pub record HasRemembered {W : Type 0} (m : Meaning W) (w : Wanted) (map : Map) (
   pub spared : TellsTruth m (setting_in w (m.around old)) old → AllByContent w kept left → (path : Path) →
       (IsLeftAt w.graph (m.around old) map path → ⊥) → ((r : Rule) → IsMadeStale w kept left path r → ⊥) →
       HasThroughout m old new path (λ around found. AreDistinct (setting_in w left) around.met → found ≡ map path)
+  -- such a leftover copy has its own, or none;
+  pub spared_leftovers : TellsTruth m (setting_in w (m.around old)) old → AllByContent w kept left → (path : Path) →
+      IsLeftAt w.graph (m.around old) map path → ((r : Rule) → IsMadeStale w kept left path r → ⊥) →
+      HasThroughout m old new path (λ around found. AreDistinct (setting_in w left) around.met → (found ≡ map path) ⊎ (found ≡ None))
   -- and what one makes has its own, none, or that of the clean build.
   pub made : TellsTruth m (setting_in w (m.around old)) old → AllByContent w kept left → (path : Path) (r : Rule) →
       IsMadeStale w kept left path r → HasThroughout m old new path (λ around found. AreDistinct (setting_in w left) around.met →

@@ -27,6 +27,7 @@ use Rattle.build_run.specs.Outs.{ShareNone}
 use Rattle.build_run.specs.Outsets.{IsReadyFor}
 use Rattle.build_run.specs.Sites.{most_jobs}
 use Rattle.build_run.specs.Truth.{IsSafeMoment, TellsTruth}
+use Rattle.build_run.specs.Unmade.{HasOneMaker, IsNotUnmade, Since}
 use Rattle.build_run.specs.Watches.{Watch, Allows, Covers, IsWatched, MayGo, MayPut}
 use Rattle.build_run.specs.declared.account.Account.{Account}
 use Rattle.build_run.specs.declared.building.Options.{Options}
@@ -70,21 +71,23 @@ TakesSafely m may old new = (k : Watch) → (m.tells old → may k.path → k.go
 
 -- ---- tickets
 
--- a ticket is for a record that is true of what stands, and may be put
+-- a ticket is for a record that is true of what stands, and may be put: what it is of isn't unmade
 pub record HasTrueRecord (k : Watch) (store : Store) (around : Around) (busy : Busy) : Type 0 where
   pub rec : Rec
   pub is : IsTicket store rec busy.ticket
   pub targets : rec.targets ≡ busy.hold.targets
   pub true_now : IsTrue k.setting around rec
   pub puts : MayPut k around rec
+  pub made : Contains rec.targets k.path → Since k.start around.log (IsNotUnmade k.path)
 
--- a ticket is for the record that the running job of its rule is to have, and that may be put then
+-- a ticket is for the record that the running job of its rule is to have, and that may be put then: no other job makes what it is of
 pub record HasOwnRecord (k : Watch) (store : Store) (around : Around) (busy : Busy) : Type 0 where
   pub rec : Rec
   pub is : IsTicket store rec busy.ticket
   pub targets : rec.targets ≡ busy.hold.targets
   pub each : (run : Running) → Contains around.running run → run.job.id ≡ busy.hold.rule.0 → IsTicketOf k.setting around.met run rec
   pub puts : MayPut k around rec
+  pub alone : Contains rec.targets k.path → Since k.start around.log (HasOneMaker k.path busy.hold.rule.0)
 
 -- what is held is true, unless the disk has refused, and what runs is to have the record of its ticket
 pub record AreSafeIn {W : Type 0} (m : Meaning W) (k : Watch) (world : W) (store : Store) (rest busies : List Busy) (account : Account)

@@ -12,6 +12,7 @@ ghost use Rattle.build_run.specs.Causes.{BuildCauses, IsInner};
 ghost use Rattle.build_run.specs.Endings.{EndingsAreCounted, KeepsWant};
 ghost use Rattle.build_run.specs.Unrecorded.{BuildCounts, EndsAll};
 ghost use Rattle.build_run.specs.FaultTexts.{BuildTells, KeepsTold, SiteKeepsTold};
+ghost use Rattle.build_run.specs.Forgetting.{Forgets};
 ghost use Rattle.build_run.specs.Goings.{Goes, Passes, Stays};
 ghost use Rattle.build_run.specs.Ledgers.{ledger_of, AllAccounts, Reports};
 ghost use Rattle.build_run.specs.Output.{BuildPrints, MakesPrinted};
@@ -92,6 +93,7 @@ pub fn build<W: World, O: Sink, E: Sink>(
     ensures counts { BuildCounts W.meaning graph.old requested.now options.now store.old world.old store.new world.new result }
     ensures safe { BuildsSafely W.meaning (wanted_of graph.old requested.now options.now) world.old world.new }
     ensures remembers { Remembers W.meaning (wanted_of graph.old requested.now options.now) (map_of store.old) world.old world.new }
+    ensures forgets { Forgets W.meaning (wanted_of graph.old requested.now options.now) world.old world.new }
     ensures ends { EndsForReason options.now result }
     ensures tells { BuildTells E.meaning err.old err.new result }
     ensures prints { BuildPrints W.meaning O.meaning (wanted_of graph.old requested.now options.now) (map_of store.old) options.now world.old out.old

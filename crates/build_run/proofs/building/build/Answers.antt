@@ -3,11 +3,11 @@ use Rattle.build_means.specs.Rules.{IsReading}
 use Rattle.build_run.specs.Causes.{outside}
 use Rattle.build_run.specs.Ledgers.{ledger_of, ledger_of_end, blank, with_end}
 use Rattle.build_run.specs.Outsets.{wanted_of}
-use Rattle.build_run.proofs.Builds.{build_printed, build_ran, build_refused, build_remembers, build_silent, build_skipped, build_succeeded, has_outset, is_blank, refused_remembers, refused_skips, refused_untold}
+use Rattle.build_run.proofs.Builds.{build_forgets, build_printed, build_ran, build_refused, build_remembers, build_silent, build_skipped, build_succeeded, has_unwatched, is_blank, refused_forgets, refused_remembers, refused_skips, refused_untold}
 use Rattle.build_run.proofs.Causing.{account_as, at_first, caused, ended, same_counts}
 use Rattle.build_run.proofs.Goings.{passes_on}
 use Rattle.build_run.proofs.Safely.{safe_on}
-use Rattle.build_run.proofs.Stopped.{builds_safely, never_covers, unwatched}
+use Rattle.build_run.proofs.Stopped.{builds_safely, unwatched}
 use Rattle.build_run.proofs.Taking.{take_accounted}
 use Rattle.build_run.proofs.Reasons.{answers_so, not_ended}
 use Rattle.build_run.proofs.Reporting.{begins_told, build_tells}
@@ -128,20 +128,21 @@ returns-in-Ok-clause-safe g c =
     builds_safely m (wanted_of c.args.graph.now c.args.requested.now c.args.options.now) c.args.world.now c.make_all-skipped.new.world
     c.requires.idle
     (λ s below safe.
-    safe_on m (unwatched s) c.args.world.now mid c.make_all-skipped.new.world c.make_all-skipped.ensures.passes.told
-    (c.set_out.ensures.safe (unwatched s) (λ t left. refl) safe)
-    (c.make_all-skipped.ensures.safe (unwatched s) (λ tells sure.
-    has_outset m c.args.graph.now c.args.requested.now c.args.options.now read c.args.world.now mid
+    let k = unwatched s (m.around c.args.world.now).log in
+    safe_on m k c.args.world.now mid c.make_all-skipped.new.world c.make_all-skipped.ensures.passes.told
+    (c.set_out.ensures.safe k (λ t left. refl) safe)
+    (c.make_all-skipped.ensures.safe k (λ tells sure.
+    has_unwatched m c.args.graph.now c.args.requested.now c.args.options.now read c.args.world.now mid
     c.make_all-skipped.new.world c.args.store.now c.set_out.new.store c.requires.idle c.set_out.new.graph c.in-Ok.run' c.new-account.result
     c.set_out.ensures.goes.passes.told.told c.in-Ok.ensures.cause
     c.in-Ok.ensures.sets (is_blank c.new-account.result c.new-account.ensures.ledger c.new-account.ensures.ended)
     (g.met.W.Disk.reads_as c.set_out.new.world) c.in-Ok.ensures.kept c.make_all-skipped.ensures.passes.told.sure c.set_out.ensures.safe
-    c.runs_are_right.ensures tells below (unwatched s) (never_covers s _))))
+    c.runs_are_right.ensures tells below s)))
 
 pub returns-in-Err-clause-safe : goal.returns-in-Err-clause-safe
 returns-in-Err-clause-safe g c =
     builds_safely g.W.Disk.meaning (wanted_of c.args.graph.now c.args.requested.now c.args.options.now) c.args.world.now
-    c.set_out.new.world c.requires.idle (λ s below safe. c.set_out.ensures.safe (unwatched s) (λ t left. refl) safe)
+    c.set_out.new.world c.requires.idle (λ s below safe. c.set_out.ensures.safe (unwatched s (g.W.Disk.meaning.around c.args.world.now).log) (λ t left. refl) safe)
 
 pub returns-in-Ok-clause-remembers : goal.returns-in-Ok-clause-remembers
 returns-in-Ok-clause-remembers g c = λ tells sure below.
@@ -162,6 +163,30 @@ returns-in-Err-clause-remembers g c = λ tells sure below.
     refused_remembers g.W.Disk.meaning c.args.graph.now c.args.requested.now c.args.options.now read c.args.world.now c.set_out.new.world
     c.set_out.new.world c.args.store.now c.set_out.new.store c.requires.idle c.requires.kept c.set_out.ensures.goes.passes.told.told
     c.in-Err.ensures.rest c.set_out.ensures.safe tells below
+
+pub returns-in-Ok-clause-forgets : goal.returns-in-Ok-clause-forgets
+returns-in-Ok-clause-forgets g c = λ tells sure below.
+    let m = g.W.Disk.meaning in
+    let all = c.make_all-skipped.ensures in
+    let read : IsReading c.args.graph.now =
+    record { apart = c.laws.ensures.apart; single = c.laws.ensures.single; named = c.laws.ensures.named } in
+    build_forgets m c.args.graph.now c.args.requested.now c.args.options.now read c.args.world.now c.set_out.new.world
+    c.make_all-skipped.new.world c.args.store.now c.set_out.new.store c.requires.idle c.set_out.new.graph c.in-Ok.run' c.new-account.result
+    c.set_out.ensures.goes.passes.told.told c.in-Ok.ensures.cause
+    c.in-Ok.ensures.sets (is_blank c.new-account.result c.new-account.ensures.ledger c.new-account.ensures.ended)
+    (g.met.W.Disk.reads_as c.set_out.new.world) c.in-Ok.ensures.kept all.passes.told.sure c.set_out.ensures.safe
+    c.runs_are_right.ensures all.passes.told all.safe c.make_all-skipped.new.account c.make_all-skipped.new.store all.makes
+    (g.met.W.Disk.reads_as c.make_all-skipped.new.world) tells sure below
+
+pub returns-in-Err-clause-forgets : goal.returns-in-Err-clause-forgets
+returns-in-Err-clause-forgets g c = λ tells sure below.
+    let m = g.W.Disk.meaning in
+    let world = c.set_out.new.world in
+    let read : IsReading c.args.graph.now =
+    record { apart = c.laws.ensures.apart; single = c.laws.ensures.single; named = c.laws.ensures.named } in
+    refused_forgets m c.args.graph.now c.args.requested.now c.args.options.now read c.args.world.now world
+    world c.args.store.now c.set_out.new.store c.requires.idle c.set_out.ensures.goes.passes.told.told
+    c.in-Err.ensures.rest c.set_out.ensures.safe (g.met.W.Disk.reads_as world tells) tells sure
 
 pub returns-in-Ok-clause-ends : goal.returns-in-Ok-clause-ends
 returns-in-Ok-clause-ends g c =
