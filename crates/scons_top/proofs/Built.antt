@@ -13,6 +13,7 @@ use Rattle.sign_store.specs.Ends.{image_in}
 use Rattle.sign_store.specs.Tables.{Map}
 use Rattle.build_model.specs.Rules.{Path}
 use Rattle.build_run.specs.Causes.{HasAny}
+use Rattle.build_run.specs.Forgetting.{Forgets}
 use Rattle.build_run.specs.Outsets.{BuildSucceeds}
 use Rattle.build_run.specs.Reasons.{EndsForReason, HasLast, IsLast}
 use Rattle.build_run.specs.Remembering.{Remembers}
@@ -28,6 +29,7 @@ use Rattle.scons_top.specs.Watching.{Watches}
 use Rattle.scons_top.specs.declared.report.Report.{Report}
 use Rattle.scons_top.specs.declared.stop.Stop.{Stop}
 use Rattle.scons_top.proofs.Building.{SkipsBy, around_asked, ends_looked, jobs_of, records_kept, run_back, run_on, success_back, success_on}
+use Rattle.scons_top.proofs.Forgotten.{forgets_begun, forgets_looked, forgets_on}
 use Rattle.scons_top.proofs.Remembered.{remembers_begun, remembers_behind, remembers_looked}
 
 -- behind a build
@@ -53,6 +55,7 @@ built_looked m said old a b report only watches told idle h =
       wanting = h.wanting;
       jobs = on.jobs;
       remembers = remembers_behind m w only old a b watches.looks idle h.remembers;
+      forgets = forgets_on m only old a b watches.looks told h.forgets;
       found = h.found;
       reported = h.reported;
       goes_on = h.goes_on;
@@ -83,6 +86,7 @@ built_back m said a b new report only looks here idle told counts safe h =
       wanting = h.wanting;
       jobs = back.jobs;
       remembers = remembers_looked m w only a b new looks safe told around counts records h.remembers;
+      forgets = forgets_looked m only a b new looks told here h.forgets;
       found = h.found;
       reported = h.reported;
       goes_on = h.goes_on;
@@ -117,9 +121,10 @@ pub build_done : {W : Type 0} (m : Meaning W) (said : Words) (g : RuleGraph) (re
     → m.tells new → m.sure new → (m.tells new → m.sure new → are_below (length g.nodes) requested ≡ true → HasSkipped m (wanted_by said g requested) store begun new behind answer)
     → (m.tells new → m.sure new → are_below (length g.nodes) requested ≡ true → HasCounted m (wanted_by said g requested) store begun new behind answer.is_ended answer.memory)
     → Remembers m (wanted_by said g requested) store begun new
+    → Forgets m (wanted_by said g requested) begun new
     → BuildSucceeds m (wanted_by said g requested) store begun new behind answer → HasBuilt m said old new report
 build_done m said g requested store old begun new behind answer report begins safe told counts records nodes well memory reported
-    skipped reason tells sure skips jobs remembers succeeds =
+    skipped reason tells sure skips jobs remembers forgets succeeds =
     let w = wanted_by said g requested in
     let here = told.told tells in
     let before = image_in (m.seen old) in
@@ -143,6 +148,7 @@ build_done m said g requested store old begun new behind answer report begins sa
       wanting = memory;
       jobs = back.jobs;
       remembers = remembers_begun m w store old begun new begins safe told here counts same (remembers tells sure nodes);
+      forgets = forgets_begun m old begun new begins told here (forgets tells sure nodes);
       found = answer.faults;
       reported = reported;
       goes_on = λ ne keep is. last_told answer.memory answer.faults (memory ne) (reason keep is);

@@ -6,6 +6,7 @@ mod Reporting
 mod Requesting
 mod Building
 mod Remembered
+mod Forgotten
 mod Built
 mod Stepping
 mod Keeping

@@ -161,6 +161,7 @@ module _ (w : Wanted) (map : Map) (start : Around) (counts : Counts) (before aft
     others = λ path unleft none. on path _ (λ around. refl) (h.others path unleft none);
     leftovers = λ path is_left none. on path _ (λ around. inl refl) (h.leftovers path is_left none);
     spared = λ told by path unleft none. on path _ (λ around distinct. refl) (h.spared (truth told) by path unleft none);
+    spared_leftovers = λ told by path is_left none. on path _ (λ around distinct. inl refl) (h.spared_leftovers (truth told) by path is_left none);
     made = λ told by path r is. on path _ (λ around distinct. IsOneOf.had_before refl) (h.made (truth told) by path r is);
   }
 
@@ -174,6 +175,7 @@ module _ {W : Type 0} (m : Meaning W) (w : Wanted) where
     others = h.others;
     leftovers = h.leftovers;
     spared = h.spared;
+    spared_leftovers = h.spared_leftovers;
     made = h.made;
   }
 

@@ -12,6 +12,7 @@ use Rattle.sign_store.specs.Tables.{Map}
 use Rattle.scons_words.specs.declared.words.Words.{Words}
 use Rattle.build_means.specs.Builds.{Wanted}
 use Rattle.build_run.specs.Causes.{HasAny}
+use Rattle.build_run.specs.Forgetting.{HasForgotten}
 use Rattle.build_run.specs.Outsets.{HasRun, HasSucceeded}
 use Rattle.build_run.specs.Reasons.{IsLast}
 use Rattle.build_run.specs.Skips.{AreSkips}
@@ -54,7 +55,7 @@ EndsBefore m old new = Looks m old new ⊎ LooksAndBegins m old new
 
 -- A run built nodes of a graph, from the world as the run found it and the records that its banks held then; where it answers
 -- status 0, the build succeeded; what its report tells to be skipped is what the build held back; its jobs that didn't end well are counted;
--- and wherever it is stopped no record is forgotten.
+-- and wherever it is stopped no record is forgotten, but of what it started to make and didn't make there is none.
 pub record HasBuilt {W : Type 0} (m : Meaning W) (said : Words) (old new : W) (report : Report) : Type 0 where
   pub graph : RuleGraph
   pub requested : List NodeId
@@ -70,6 +71,8 @@ pub record HasBuilt {W : Type 0} (m : Meaning W) (said : Words) (old new : W) (r
   pub wanting : report.status ≢ 3 → memory ≡ false
   pub jobs : CountsJobs (m.counts old) (m.counts new) memory kept runs.runs.log.entries
   pub remembers : HasRememberedSince m (wanted_by said graph requested) old new
+  -- of all that the run started, whose jobs are those of the build alone
+  pub forgets : HasForgotten m old new
   -- the faults of the build, each of which the report has unless memory was wanting
   pub found : List BuildFault
   pub reported : report.status ≢ 3 → All (λ f. Contains report.faults (top_of f)) found

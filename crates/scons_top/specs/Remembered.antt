@@ -51,6 +51,10 @@ pub record RemembersFrom (w : Wanted) (map : Map) (start : Around) (counts : Cou
   -- stale rule makes has its own, unless it is a leftover copy;
   pub spared : truth → AllByContent w kept left → (path : Path) → (IsLeftAt w.graph start map path → ⊥) →
       ((r : Rule) → IsMadeStale w kept left path r → ⊥) → Has path (λ around found. AreDistinct (setting_in w left) around.met → found ≡ map path)
+  -- such a leftover copy has its own, or none;
+  pub spared_leftovers : truth → AllByContent w kept left → (path : Path) → IsLeftAt w.graph start map path →
+      ((r : Rule) → IsMadeStale w kept left path r → ⊥) →
+      Has path (λ around found. AreDistinct (setting_in w left) around.met → (found ≡ map path) ⊎ (found ≡ None))
   -- and what one makes has its own, none, or that of the clean build.
   pub made : truth → AllByContent w kept left → (path : Path) (r : Rule) → IsMadeStale w kept left path r → Has path (λ around found.
       AreDistinct (setting_in w left) around.met → IsOneOf (map path) (clean_record (graph_in w left) (build_in w kept left left) r) found)
