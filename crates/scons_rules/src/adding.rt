@@ -53,6 +53,10 @@ impl RuleReading {
         locals: &RuleLocals,
         libraries: &Paths,
     ) -> Result<(), RuleReadFault>
+        ensures ok { OnOk result (added self.old.declared number locals.now libraries.now (graph_by self.old.graph)
+            ≡ Ok (graph_by self.new.graph)) }
+        ensures fault { IfErr result (λ e. e ≢ RuleReadFault.Memory
+            → added self.old.declared number locals.now libraries.now (graph_by self.old.graph) ≡ Err e) }
         ensures rest { self.new.declared ≡ self.old.declared }
     {
         match OneRule::at(self.alloc, &self.state, number, &locals.locals) {
