@@ -14,3 +14,4 @@ pub mod Ordering
 pub mod Growing
 pub mod Finding
 pub mod Ruled
+pub mod Closing

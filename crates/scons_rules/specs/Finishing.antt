@@ -1,6 +1,6 @@
 -- What the graph gets once all rules are in it: the variant directories, the aliases with all that they stand for, the defaults and
 -- the help texts.
-use Rattle.std.specs.Prelude.{ℕ, ◌+◌, not, List, [], ◌∷◌, ◌++◌, Option, Some, None, unwrap_or, Result, Ok, Err, map, fold, if◌then◌else◌}
+use Rattle.std.specs.Prelude.{◌≡◌, ℕ, ◌+◌, not, List, [], ◌∷◌, ◌++◌, Option, Some, None, unwrap_or, Result, Ok, Err, map, fold, if◌then◌else◌}
 use Rattle.std.specs.List.{list_any, find, flat_map}
 use Rattle.std.specs.Str.{bytes_eq}
 use Rattle.variant_dirs.specs.declared.fault.VariantFault.{VariantFault}
@@ -25,7 +25,7 @@ use Rattle.scons_rules.specs.declared.fault.RuleReadFault.TheVariants.{At}
 use Rattle.scons_rules.specs.Aliased.{file_in}
 use Rattle.scons_rules.specs.Faults.{of_name}
 use Rattle.scons_rules.specs.Numbers.{each_once, interned}
-use Rattle.scons_rules.specs.Orders.{flattened}
+use Rattle.scons_rules.specs.Orders.{Lists, flattened}
 use Rattle.scons_rules.specs.PathGraphs.{PathGraph}
 use Rattle.scons_rules.specs.Ruling.{alias_lists}
 use Rattle.scons_rules.specs.Steps.{and_then, all_of, in_turn}
@@ -63,8 +63,8 @@ abbrev pub with_variants : List Variant → PathGraph → Result PathGraph RuleR
 with_variants variants g = in_turn with_variant variants g
 
 -- the files and directories that the alias at a place stands for
-abbrev pub alias_files : Declared → ℕ → List (List ℕ)
-alias_files d place = flat_map (file_in d) (flattened (alias_lists d) place)
+abbrev pub alias_files : Declared → Lists → ℕ → List (List ℕ)
+alias_files d lists place = flat_map (file_in d) (flattened lists place)
 
 abbrev pub with_members : List ℕ → List (List ℕ) → PathGraph → PathGraph
 with_members name paths g = record g { aliases = put g.aliases name (unwrap_or (value_at g.aliases name) [] ++ each_once paths) }
@@ -73,11 +73,11 @@ with_members name paths g = record g { aliases = put g.aliases name (unwrap_or (
 abbrev pub with_alias : List ℕ → List (List ℕ) → PathGraph → Result PathGraph RuleReadFault
 with_alias name paths g = and_then (interned g.nodes paths) (λ nodes. Ok (with_members name paths (record g { nodes = nodes })))
 
--- all aliases from a place on
-abbrev pub with_aliases : Declared → Aliases → ℕ → PathGraph → Result PathGraph RuleReadFault
-with_aliases d [] place g = Ok g
-with_aliases d (alias ∷ aliases) place g =
-    and_then (with_alias alias.0 (alias_files d place) g) (with_aliases d aliases (place + 1))
+-- all aliases from a place on, where these are the lists of all
+abbrev pub with_aliases : Declared → Lists → Aliases → ℕ → PathGraph → Result PathGraph RuleReadFault
+with_aliases d lists [] place g = Ok g
+with_aliases d lists (alias ∷ aliases) place g =
+    and_then (with_alias alias.0 (alias_files d lists place) g) (with_aliases d lists aliases (place + 1))
 
 -- what was given to Default: a text that names an alias stands for it
 abbrev pub wish_of : Declared → Asked → Wish
@@ -93,6 +93,11 @@ word_of (wish.Path path) = path
 abbrev pub with_wish : List Wish → Wish → List Wish
 with_wish wishes w = if list_any (bytes_eq (word_of w)) (map word_of wishes) then wishes else wishes ++ w ∷ []
 
+-- a wish that comes behind these: it is a further default, unless its word was met
+pub record IsWished (wishes : List Wish) (w : Wish) (old new : List Wish) (met : List (List ℕ)) : Type 0 where
+  pub words : met ≡ map word_of (with_wish wishes w)
+  pub defaults : (base : List Wish) → old ≡ base ++ wishes → new ≡ base ++ with_wish wishes w
+
 -- the defaults, each once
 abbrev pub wishes : Declared → List Wish
 wishes d = fold with_wish [] (map (wish_of d) d.defaults)
@@ -102,5 +107,5 @@ abbrev pub finished : Declared → PathGraph → Result PathGraph RuleReadFault
 finished d g =
     and_then (have_rules d) (λ u.
     and_then (with_variants d.locals.variants g) (λ varied.
-    and_then (with_aliases d d.aliases 0 varied) (λ named.
+    and_then (with_aliases d (alias_lists d) d.aliases 0 varied) (λ named.
     Ok (record named { defaults = named.defaults ++ wishes d; helps = named.helps ++ d.helps }))))

@@ -1,7 +1,8 @@
 //! What the graph holds beside rules.
-ghost use Rattle.std.specs.Prelude.{◌≡◌, ◌≢◌, ◌++◌, ℕ, List, Ok, Err, Some, IfOk, IfErr, OnOk, MatchResult, slice_get, option_copied};
+ghost use Rattle.std.specs.Prelude.{◌≡◌, ◌≢◌, ◌++◌, ℕ, List, Ok, Err, Some, IfOk, IfErr, OnOk, map, slice_get, option_copied};
 ghost use Rattle.scons_decls.specs.State.{declared_of};
 ghost use Rattle.scons_rules.specs.AliasTable.{names_in};
+ghost use Rattle.rule_graph.specs.declared.wish.Wish.{Wish};
 ghost use Rattle.scons_rules.specs.Finishing as spec;
 ghost use Rattle.scons_rules.specs.PathGraphs.{graph_by};
 ghost use Rattle.scons_rules.specs.Ruling.{alias_lists};
@@ -19,7 +20,11 @@ use variant_dirs::Variant;
 
 impl RuleReading {
     /// The graph, with aliases, defaults, help texts and variant directories.
-    pub fn finish(self) -> Result<Graph, RuleReadFault> {
+    pub fn finish(self) -> Result<Graph, RuleReadFault>
+        ensures ok { IfOk result (λ g. spec.finished self.declared (graph_by self.graph) ≡ Ok (graph_by g)) }
+        ensures fault { IfErr result (λ e. e ≢ RuleReadFault.Memory
+            → spec.finished self.declared (graph_by self.graph) ≡ Err e) }
+    {
         let mut reading = self;
         reading.add_rest()?;
         Ok(reading.into_graph())
@@ -32,13 +37,32 @@ impl RuleReading {
         graph
     }
 
-    fn add_rest(&mut self) -> Result<(), RuleReadFault> {
-        refuse_unmade(&self.state)?;
-        add_variants(&mut self.graph, self.state.locals.variants.as_slice())?;
-        add_aliases(self.alloc, &self.state, &self.aliases, &mut self.graph)?;
-        add_defaults(self.alloc, &self.state, &mut self.graph)?;
-        Ok(add_helps(&mut self.graph, self.state.helps.as_slice())?)
+    fn add_rest(&mut self) -> Result<(), RuleReadFault>
+        ensures ok { OnOk result (spec.finished self.old.declared (graph_by self.old.graph) ≡ Ok (graph_by self.new.graph)) }
+        ensures fault { IfErr result (λ e. e ≢ RuleReadFault.Memory
+            → spec.finished self.old.declared (graph_by self.old.graph) ≡ Err e) }
+    {
+        put_rest(self.alloc, &self.state, &self.aliases, &mut self.graph)
     }
+}
+
+/// Puts all that isn't a rule into a graph.
+fn put_rest(
+    alloc: Global,
+    state: &Declarations,
+    aliases: &Aliases,
+    graph: &mut Graph,
+) -> Result<(), RuleReadFault>
+    requires { aliases.now ≡ alias_lists (declared_of state.now) }
+    ensures ok { OnOk result (spec.finished (declared_of state.now) (graph_by graph.old) ≡ Ok (graph_by graph.new)) }
+    ensures fault { IfErr result (λ e. e ≢ RuleReadFault.Memory
+        → spec.finished (declared_of state.now) (graph_by graph.old) ≡ Err e) }
+{
+    refuse_unmade(state)?;
+    add_variants(graph, state.locals.variants.as_slice())?;
+    add_aliases(alloc, state, aliases, graph)?;
+    add_defaults(alloc, state, graph)?;
+    Ok(add_helps(graph, state.helps.as_slice())?)
 }
 
 /// What is said of a target that no rule makes would count for nothing. That it is always made is no matter then.
@@ -110,39 +134,86 @@ fn add_aliases(
     state: &Declarations,
     aliases: &Aliases,
     graph: &mut Graph,
-) -> Result<(), RuleReadFault> {
+) -> Result<(), RuleReadFault>
+    ensures ok { OnOk result (spec.with_aliases (declared_of state.now) aliases.now state.now.aliases 0 (graph_by graph.old)
+        ≡ Ok (graph_by graph.new)) }
+    ensures fault { IfErr result (λ e. e ≢ RuleReadFault.Memory
+        → spec.with_aliases (declared_of state.now) aliases.now state.now.aliases 0 (graph_by graph.old) ≡ Err e) }
+{
     'aliases: for place in 0..state.aliases.len() {
         add_alias(alloc, state, aliases, graph, place)?;
     }
     Ok(())
 }
 
+/// Adds the alias at a place.
 fn add_alias(
     alloc: Global,
     state: &Declarations,
     aliases: &Aliases,
     graph: &mut Graph,
     place: usize,
-) -> Result<(), RuleReadFault> {
-    let Some((name, _)) = state.aliases.get_index(place) else {
-        return Ok(());
-    };
+) -> Result<(), RuleReadFault>
+    ensures ok { OnOk result ((name : List ℕ) → slice_get (names_in state.now.aliases) place ≡ Some name
+        → spec.with_alias name (spec.alias_files (declared_of state.now) aliases.now place) (graph_by graph.old) ≡ Ok (graph_by graph.new)) }
+    ensures fault { IfErr result (λ e. e ≢ RuleReadFault.Memory → (name : List ℕ) → slice_get (names_in state.now.aliases) place ≡ Some name
+        → spec.with_alias name (spec.alias_files (declared_of state.now) aliases.now place) (graph_by graph.old) ≡ Err e) }
+{
+    match state.aliases.get_index(place) {
+        Some((name, _)) => {
+            let files = aliases.files_at(alloc, state, place)?;
+            add_named(alloc, graph, name.as_str(), files.as_slice())
+        }
+        None => Ok(()),
+    }
+}
+
+/// Adds an alias of these files, each once.
+fn add_named(
+    alloc: Global,
+    graph: &mut Graph,
+    name: &str,
+    files: &[PathText],
+) -> Result<(), RuleReadFault>
+    ensures ok { OnOk result (spec.with_alias name.now files.now (graph_by graph.old) ≡ Ok (graph_by graph.new)) }
+    ensures fault { IfErr result (λ e. e ≢ RuleReadFault.Memory
+        → spec.with_alias name.now files.now (graph_by graph.old) ≡ Err e) }
+{
     graph.laws();
-    let files = aliases.files_at(alloc, state, place)?;
-    let nodes = nodes_of(alloc, graph, files.as_slice())?;
-    Ok(graph.add_alias(name.as_str(), nodes.as_slice())?)
+    let nodes = nodes_of(alloc, graph, files)?;
+    graph.add_alias(name, nodes.as_slice())?;
+    Ok(())
 }
 
 /// Adds the defaults, each once.
-fn add_defaults(alloc: Global, state: &Declarations, graph: &mut Graph) -> Result<(), Memory> {
+fn add_defaults(alloc: Global, state: &Declarations, graph: &mut Graph) -> Result<(), Memory>
+    ensures { OnOk result (graph.new ≡ record graph.old {
+      defaults = graph.old.defaults ++ spec.wishes (declared_of state.now);
+    }) }
+{
     let mut met = IndexSet::new(alloc);
     for asked in &state.defaults {
         let wish = wish_of(state, asked)?;
-        if met.insert(word_of(alloc, &wish)?)? {
-            graph.add_default(wish)?;
-        }
+        add_wish(alloc, &mut met, graph, wish)?;
     }
     Ok(())
+}
+
+/// Adds a wish, unless its word was met.
+fn add_wish(
+    alloc: Global,
+    met: &mut IndexSet<Text>,
+    graph: &mut Graph,
+    wish: Wish,
+) -> Result<(), Memory>
+    ensures wish { OnOk result ((wishes : List Wish) → met.old.keys ≡ map spec.word_of wishes
+        → spec.IsWished wishes wish graph.old.defaults graph.new.defaults met.new.keys) }
+    ensures rest { graph.new ≡ record graph.old { defaults = graph.new.defaults } }
+{
+    if !met.insert(word_of(alloc, &wish)?)? {
+        return Ok(());
+    }
+    graph.add_default(wish)
 }
 
 fn add_helps(graph: &mut Graph, helps: &[Text]) -> Result<(), Memory>
