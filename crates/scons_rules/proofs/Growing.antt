@@ -244,6 +244,3 @@ module _ (g : RuleGraph) (valid : IsGraph (length g.nodes) g.rules g.aliases) (n
       put_by nodes g.aliases name (unwrap_or (named.members_of g.aliases name) [] ++ ns) ∙ ap (λ l. put l name (map (path_of nodes) (unwrap_or (named.members_of g.aliases name) [] ++ ns))) (aliases_stay g valid nodes grown)
       ∙ ap (put (map (alias_by g.nodes) g.aliases) name) members in
       rw got (ap Ok (sym (ap graph_by is ∙ rw (rules_stay g valid nodes grown, aliases) refl)))
-
-  pub alias_refused : (e : RuleReadFault) → interned g.nodes paths ≡ Err e → with_alias name paths (graph_by g) ≡ Err e
-  alias_refused e full = rw full refl

@@ -7,12 +7,10 @@ use Rattle.env_subst.specs.declared.locals.Locals.{Locals}
 use Rattle.scons_decls.specs.declared.rule.Declaration.{Declaration}
 use Rattle.scons_decls.specs.State.{Declared, Rule, rule_of}
 use Rattle.scons_rules.specs.declared.fault.RuleReadFault.{RuleReadFault}
-use Rattle.scons_rules.specs.Knowing.{Known, cplusplus_objects, of_rule, begun}
 use Rattle.scons_rules.specs.Expanding.{Expanding}
-use Rattle.scons_rules.specs.Libraries.{Files}
 use Rattle.scons_rules.specs.Making.{put_made}
 use Rattle.scons_rules.specs.PathGraphs.{PathGraph}
-use Rattle.scons_rules.specs.Ruling.{added, spoken, libraries_of, program_libraries}
+use Rattle.scons_rules.specs.Ruling.{added, spoken}
 use Rattle.scons_rules.specs.Sayings.{said_of}
 
 pub rule_there : (rules : List Declaration) (n : ℕ) (r : Declaration) → slice_get rules n ≡ Some r → slice_get (map rule_of rules) n ≡ Some (rule_of r)
@@ -22,15 +20,9 @@ pub no_rule : (rules : List Declaration) (n : ℕ) → slice_get rules n ≡ Non
 no_rule rules n e = slice_get-map rule_of rules n ∙ ap (option_map rule_of) e
 
 module _ (d : Declared) (n : ℕ) (r : Rule) (there : slice_get d.rules n ≡ Some r) where
-  pub begun_at : (k : Known) → begun d n k ≡ of_rule d (cplusplus_objects d.rules) r k
-  begun_at k = rw there refl
-
   pub added_at : (l : Locals) (libs : List (List ℕ)) (g : PathGraph)
       → added d n l libs g ≡ put_made (record { declared = d; rule = r; locals = l }) (said_of (spoken d) r.targets) libs g
   added_at l libs g = rw there refl
-
-  pub libraries_at : (f : Files) (l : Locals) → libraries_of f d n l ≡ program_libraries f (record { declared = d; rule = r; locals = l })
-  libraries_at f l = rw there refl
 
 pub nothing_added : (d : Declared) (n : ℕ) (l : Locals) (libs : List (List ℕ)) (g : PathGraph) → slice_get d.rules n ≡ None → added d n l libs g ≡ Ok g
 nothing_added d n l libs g none = rw none refl
