@@ -1,5 +1,5 @@
 -- Steps of a loop over a list, of which some is left.
-use Rattle.std.proofs.Common.{arith, true, false, Bor, map, ◌≡◌, ◌∙◌, ◌≤◌, ◌<◌, ◌+◌, ℕ, suc, List, [], ◌∷◌, Option, Some, None, Result, Ok, Err, refl, ap, sym, drop, get_or, length, add-one, drop-cons, inl, inr}
+use Rattle.std.proofs.Common.{arith, true, false, Bor, map, ◌≡◌, ◌∙◌, ◌≤◌, ◌<◌, ◌+◌, ℕ, suc, List, [], ◌∷◌, ◌++◌, Option, Some, None, Result, Ok, Err, refl, ap, sym, drop, get_or, length, add-one, drop-cons, inl, inr}
 use Rattle.std.specs.Prelude.{slice_get, fold}
 use Rattle.std.specs.List.{enumerate_from}
 use Rattle.std.proofs.lemmas.List.{drop_all, length-map}
@@ -12,13 +12,15 @@ use Rattle.py_heap.specs.Heap.{Objects, dict_at}
 use Rattle.std.specs.Option.{option_map}
 use Rattle.scons_calls.specs.declared.signature.Kind.{Kind}
 use Rattle.scons_calls.specs.declared.signature.Takes.{Takes}
+use Rattle.scons_calls.specs.declared.signature.Kind.TheVariants as kind
+use Rattle.scons_calls.specs.declared.signature.Takes.TheVariants as takes
 use Rattle.scons_calls.specs.Signatures.{Parameter, parameter_of}
 use Rattle.py_host.specs.Calls.{Arguments}
 use Rattle.scons_calls.specs.declared.fault.CallFault.{CallFault}
 use Rattle.scons_calls.specs.declared.fault.CallFault.TheVariants as fault
 use Rattle.scons_calls.specs.Binding.{is_given, stands, stands_if}
 use Rattle.scons_calls.specs.Kinds.{pairs_in}
-use Rattle.scons_calls.specs.Results.{along, and_then}
+use Rattle.scons_calls.specs.Results.{along, and_one, and_then}
 
 none_left : {X : Type 0} (xs : List X) (i : ℕ) → length xs ≤ i → drop i xs ≡ []
 none_left xs i l = drop_all i xs l
@@ -46,6 +48,15 @@ pub along_none : {A S E : Type 0} (f : S → A → Result S E) (xs : List A) (i 
 along_none f xs i s r none left =
     let past : length xs ≤ i = none_past xs i none in
     ap (along f s) (none_left xs (i + 1) (omega arith)) ∙ sym (ap (along f s) (none_left xs i past)) ∙ left
+
+-- the same where the list is asked for what stands at a place, which it may not have
+pub asked_more : {A S E : Type 0} (f : S → A → Result S E) (xs : List A) (i : ℕ) (o : Option A) (s t u : S) (x : A) (r : Result S E) → o ≡ slice_get xs i → o ≡ Some x → f s x ≡ Ok t → u ≡ t → along f s (drop i xs) ≡ r → along f u (drop (i + 1) xs) ≡ r
+asked_more f xs i o s t u x r is some made same left =
+    ap (λ v. along f v (drop (i + 1) xs)) same ∙ along_more f xs i s t x r (sym is ∙ some) made left
+
+pub asked_none : {A S E : Type 0} (f : S → A → Result S E) (xs : List A) (i : ℕ) (o : Option A) (s u : S) (r : Result S E) → o ≡ slice_get xs i → o ≡ None → u ≡ s → along f s (drop i xs) ≡ r → along f u (drop (i + 1) xs) ≡ r
+asked_none f xs i o s u r is none same left =
+    ap (λ v. along f v (drop (i + 1) xs)) same ∙ along_none f xs i s r (sym is ∙ none) left
 
 -- a fault is that of the whole
 pub along_stop : {A S E : Type 0} (f : S → A → Result S E) (xs : List A) (i : ℕ) (s : S) (x : A) (e : E) (r : Result S E) → slice_get xs i ≡ Some x → f s x ≡ Err e → along f s (drop i xs) ≡ r → r ≡ Err e
@@ -75,7 +86,20 @@ read_more f xs i s t x r l is made left = along_more f xs i s t x r (slice_get_r
 pub read_stop : {A S E : Type 0} (f : S → A → Result S E) (xs : List A) (i : ℕ) (s : S) (x : A) (e : E) (r : Result S E) → i < length xs → x ≡ get_or xs i x → f s x ≡ Err e → along f s (drop i xs) ≡ r → r ≡ Err e
 read_stop f xs i s x e r l is made left = along_stop f xs i s x e r (slice_get_read xs (length xs) i x refl l is) made left
 
+-- what is read at a place is what stands there, whatever stands for a place past the end
+pub own_read : {A : Type 0} (xs : List A) (i : ℕ) (d : A) → i < length xs → get_or xs i d ≡ get_or xs i (get_or xs i d)
+own_read xs i d l = sym (get_or_from_slice_get xs i (get_or xs i d) (get_or xs i d) (slice_get-get_or xs i d l))
+
+pub one_more : {X E : Type 0} (xs ys : List X) (made : Result X E) (x : X) → made ≡ Ok x → ys ≡ xs ++ x ∷ [] → and_one xs made ≡ Ok ys
+one_more xs ys made x is more = ap (and_one xs) is ∙ ap Ok (sym more)
+
+pub one_stop : {X E : Type 0} (xs : List X) (made : Result X E) (e : E) → made ≡ Err e → and_one xs made ≡ Err e
+one_stop xs made e is = ap (and_one xs) is
+
 -- a list of references to texts
+abbrev pub no_text : Bor (List ℕ)
+no_text = record { ref_ptr = (0, 0); now = [] }
+
 abbrev texts_at : List (Bor (List ℕ)) → List (List ℕ)
 texts_at words = map (λ w. w.now) words
 
@@ -92,6 +116,9 @@ pub text_end : {S E : Type 0} (f : S → List ℕ → Result S E) (words : List 
 text_end f words i s r past left = along_end f (texts_at words) i s r (omega (arith, length-map words (λ (w : Bor (List ℕ)). w.now))) left
 
 -- parameters that are told with their places, read from the rows of the code's table
+abbrev pub no_row : Bor (List ℕ) × Kind × Takes
+no_row = (no_text, kind.Text, takes.One)
+
 abbrev Rows : Type 0
 Rows = List (Bor (List ℕ) × Kind × Takes)
 

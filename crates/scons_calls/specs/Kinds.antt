@@ -1,5 +1,5 @@
 -- What the values of an argument are by the argument's kind, or the fault of a value of another kind.
-use Rattle.std.specs.Prelude.{ℕ, pos, true, false, Bool, not, ◌||◌, ◌==◌, List, [], ◌∷◌, ◌++◌, Option, Some, None, Result, Ok, Err, codes, length, map, slice_get, if◌then◌else◌}
+use Rattle.std.specs.Prelude.{ℕ, pos, true, false, Bool, ◌||◌, ◌==◌, List, [], ◌∷◌, ◌++◌, Option, Some, None, Result, Ok, Err, codes, length, map, slice_get, if◌then◌else◌}
 use Rattle.std.specs.Option.{ok_or}
 use Rattle.std.specs.Ordering.{int_eq}
 use Rattle.std.specs.Str.{bytes_eq}

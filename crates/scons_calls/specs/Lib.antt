@@ -2,6 +2,8 @@ pub mod Binding
 pub mod Flattening
 pub mod Identifiers
 pub mod Kinds
+pub mod Laws
+pub mod LeftOut
 pub mod Names
 pub mod Requests
 pub mod Results

@@ -16,9 +16,7 @@ use Rattle.scons_decls.specs.declared.call.Call.TheVariants as call
 use Rattle.scons_decls.specs.declared.call.Change.TheVariants as change
 use Rattle.scons_decls.specs.declared.call.Maker.{Maker}
 use Rattle.scons_decls.specs.declared.call.Maker.TheVariants as maker
-use Rattle.scons_decls.specs.declared.call.RuleCall.{RuleCall}
 use Rattle.scons_decls.specs.declared.call.RuleCall.TheVariants as rule
-use Rattle.scons_decls.specs.declared.call.SayCall.{SayCall}
 use Rattle.scons_decls.specs.declared.call.SayCall.TheVariants as say
 use Rattle.scons_decls.specs.declared.given.Given.{Given}
 use Rattle.scons_decls.specs.declared.given.Variables.{Variables}
@@ -43,7 +41,6 @@ use Rattle.scons_calls.specs.declared.request.Request.{Request}
 use Rattle.scons_calls.specs.declared.request.Request.TheVariants as request
 use Rattle.scons_calls.specs.declared.request.Shared.TheVariants as shared
 use Rattle.scons_calls.specs.declared.request.Valued.TheVariants as valued
-use Rattle.scons_calls.specs.declared.request.ScriptFiles.{ScriptFiles}
 use Rattle.scons_calls.specs.declared.signature.Others.{Others}
 use Rattle.scons_calls.specs.declared.signature.Others.TheVariants as others
 use Rattle.scons_calls.specs.Things.{Things}

@@ -1,6 +1,6 @@
 -- Which arguments each name of SCons takes, in which order and by which names: scons(1), "Builder Methods", and "SCons Functions
 -- and Environment Methods". What a name takes in SCons and not here is listed too: a call that gives it is refused by its name.
-use Rattle.std.specs.Prelude.{ℕ, List, [], ◌∷◌, ◌++◌, codes}
+use Rattle.std.specs.Prelude.{ℕ, List, [], ◌∷◌, codes}
 use Rattle.std.specs.Borrow.{Bor}
 use Rattle.scons_calls.specs.declared.name.Name.{Name}
 use Rattle.scons_calls.specs.declared.name.Name.TheVariants as name

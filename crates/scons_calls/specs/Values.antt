@@ -1,5 +1,5 @@
 -- What the host answers, as values: each with the objects and the heap after, made one after another.
-use Rattle.std.specs.Prelude.{ℕ, List, [], ◌∷◌, ◌++◌, Option, Some, None, Result, Ok, Err}
+use Rattle.std.specs.Prelude.{ℕ, List, [], ◌∷◌, ◌++◌, Option, Some, None, Result, Ok}
 use Rattle.env_vars.specs.declared.value.EnvValue.{EnvValue}
 use Rattle.env_vars.specs.declared.value.EnvValue.TheVariants as value
 use Rattle.env_vars.specs.declared.value.Item.{Item}

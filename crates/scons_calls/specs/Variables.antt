@@ -1,5 +1,5 @@
 -- What a value is as that of a construction variable.
-use Rattle.std.specs.Prelude.{ℕ, Bool, true, false, List, [], ◌∷◌, Option, Some, None, Result, Ok, Err, codes, slice_get, if◌then◌else◌}
+use Rattle.std.specs.Prelude.{ℕ, Bool, true, false, List, [], ◌∷◌, Option, Some, None, Result, Ok, Err, codes, slice_get}
 use Rattle.std.specs.Str.{bytes_eq}
 use Rattle.env_vars.specs.declared.value.EnvValue.{EnvValue}
 use Rattle.env_vars.specs.declared.value.EnvValue.TheVariants as value
@@ -74,12 +74,17 @@ macro_in h things x (Some (name ∷ text ∷ more ∷ rest)) = Err fault.Argumen
 abbrev pub macro_by : Objects → Things → Value → Result (List Item) CallFault
 macro_by h things x = macro_in h things x (items_of h x)
 
-abbrev pub macros_in : Objects → Things → Value → Option (List Value) → Result (List Item) CallFault
-macros_in h things (v.Tuple id) (Some (name ∷ text ∷ [])) = only (define_by h name text)
-macros_in h things x (Some items) = each_joined (macro_by h things) items
-macros_in h things x None = only (item_by h things x)
+-- a tuple of two is one macro, with its value
+abbrev pub tuple_macros : Objects → Things → List Value → Result (List Item) CallFault
+tuple_macros h things (name ∷ text ∷ []) = only (define_by h name text)
+tuple_macros h things items = each_joined (macro_by h things) items
 
--- the macros of CPPDEFINES: a tuple of two is one of them, with its value
+abbrev macros_in : Objects → Things → Value → Option (List Value) → Result (List Item) CallFault
+macros_in h things x None = only (item_by h things x)
+macros_in h things (v.Tuple id) (Some items) = tuple_macros h things items
+macros_in h things x (Some items) = each_joined (macro_by h things) items
+
+-- the macros of CPPDEFINES: those of a list or tuple, or the value alone
 abbrev pub macros_by : Objects → Things → Value → Result (List Item) CallFault
 macros_by h things x = macros_in h things x (items_of h x)
 

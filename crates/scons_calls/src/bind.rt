@@ -1,6 +1,5 @@
 //! Which argument of a call each parameter of a signature gets.
 ghost use Rattle.std.specs.Prelude.{◌≡◌, ◌≢◌, Ok, Err, IfOk, IfErr, OnOk, map, position};
-ghost use Rattle.std.specs.List.{list_any};
 ghost use Rattle.std.specs.Str.{bytes_eq};
 ghost use Rattle.py_host.specs.Calls.{arguments_of};
 ghost use Rattle.scons_calls.specs.Binding.{place_of, name_fits, names_fit, other_fits, is_left_out, is_needed, takes_all, last_takes_all, value_at, goes_past, is_given, needed_stand, numbers_fit};
@@ -11,6 +10,7 @@ use crate::argument::Argument;
 use crate::arguments::Arguments;
 use crate::convert::converted;
 use crate::fault::{CallFault, left_out};
+use crate::left_out::is_among;
 use crate::objects::Objects;
 use crate::signature::{Kind, Others, Parameter, Signature, Takes};
 use py_heap::{Heap, Value};
@@ -18,24 +18,37 @@ use py_host::Args;
 use std::alloc::Global;
 
 /// The arguments of a call by a signature.
+#[tactic(auto, using(crate::proofs::Tails::tails))]
 pub fn bound(
     heap: &Heap,
     objects: &Objects,
     signature: &Signature,
     args: &Args,
-) -> Result<Arguments, CallFault> {
+) -> Result<Arguments, CallFault>
+    ensures ok { let given = arguments_of args.now in
+        IfOk result (λ bound. bound_by heap.now objects.now signature.now given ≡ Ok bound) }
+    ensures fault { let given = arguments_of args.now in
+        IfErr result (λ e. e ≢ CallFault.Memory → bound_by heap.now objects.now signature.now given ≡ Err e) }
+{
     test_names(heap.allocator(), signature, args)?;
     test_numbers(signature.parameters, args)?;
     arguments(heap, objects, signature.parameters, args)
 }
 
 /// The argument of each parameter.
+#[tactic(auto, using(crate::proofs::Loops::loops))]
 fn arguments(
     heap: &Heap,
     objects: &Objects,
     parameters: &[Parameter],
     args: &Args,
-) -> Result<Arguments, CallFault> {
+) -> Result<Arguments, CallFault>
+    ensures ok { let given = arguments_of args.now in
+        IfOk result (λ bound. arguments_by heap.now objects.now given (map parameter_of parameters.now) ≡ Ok bound) }
+    ensures fault { let given = arguments_of args.now in
+        IfErr result (λ e. e ≢ CallFault.Memory →
+        arguments_by heap.now objects.now given (map parameter_of parameters.now) ≡ Err e) }
+{
     let mut arguments = Arguments::new(heap.allocator());
     for (place, parameter) in parameters.iter().enumerate() {
         arguments.push(argument(heap, objects, parameter, place, args)?)?;
@@ -44,10 +57,15 @@ fn arguments(
 }
 
 /// Whether each named argument is one that the name takes, and isn't given by its place too.
-fn test_names(alloc: Global, signature: &Signature, args: &Args) -> Result<(), CallFault> {
+#[tactic(auto, using(crate::proofs::Loops::loops))]
+fn test_names(alloc: Global, signature: &Signature, args: &Args) -> Result<(), CallFault>
+    ensures ok { OnOk result (names_fit signature.now (arguments_of args.now) ≡ Ok tt) }
+    ensures fault { IfErr result (λ e. e ≢ CallFault.Memory → names_fit signature.now (arguments_of args.now) ≡ Err e) }
+{
+    let count = args.positional.as_slice().len();
     'names: for at in 0..args.named.len() {
         if let Some((name, value)) = args.named.at(at) {
-            test_name(alloc, signature, args.positional.len(), name, value)?;
+            test_name(alloc, signature, count, name, value)?;
         }
     }
     Ok(())
@@ -92,12 +110,6 @@ fn is_left_out(signature: &Signature, name: &str) -> bool
     is_among(signature.left_out, name)
 }
 
-fn is_among(names: &[&str], name: &str) -> bool
-    ensures { result ≡ list_any (λ n. bytes_eq n.now name.now) names.now }
-{
-    names.iter().any(|other| *other == name)
-}
-
 /// The place of the parameter of a name.
 pub fn place_of(signature: &Signature, name: &str) -> Option<usize>
     ensures { result ≡ place_of signature.now name.now }
@@ -112,8 +124,10 @@ fn place_among(parameters: &[Parameter], name: &str) -> Option<usize>
 }
 
 /// Whether no argument stands past the parameters, and none that must stand is missing.
-fn test_numbers(parameters: &[Parameter], args: &Args) -> Result<(), CallFault> {
-    if goes_past(parameters, args.positional.len()) {
+fn test_numbers(parameters: &[Parameter], args: &Args) -> Result<(), CallFault>
+    ensures { result ≡ numbers_fit (map parameter_of parameters.now) (arguments_of args.now) }
+{
+    if goes_past(parameters, args.positional.as_slice().len()) {
         return Err(CallFault::Arguments);
     }
     test_needed(parameters, args)
@@ -125,7 +139,10 @@ fn goes_past(parameters: &[Parameter], count: usize) -> bool
     !last_takes_all(parameters) && parameters.len() < count
 }
 
-fn test_needed(parameters: &[Parameter], args: &Args) -> Result<(), CallFault> {
+#[tactic(auto, using(crate::proofs::Loops::loops))]
+fn test_needed(parameters: &[Parameter], args: &Args) -> Result<(), CallFault>
+    ensures { result ≡ needed_stand (map parameter_of parameters.now) (arguments_of args.now) }
+{
     for (place, parameter) in parameters.iter().enumerate() {
         if !is_given(args, place, parameter) {
             return Err(CallFault::Arguments);
@@ -179,7 +196,13 @@ fn argument(
     parameter: &Parameter,
     place: usize,
     args: &Args,
-) -> Result<Option<Argument>, CallFault> {
+) -> Result<Option<Argument>, CallFault>
+    ensures ok { let given = arguments_of args.now in
+        IfOk result (λ a. argument_by heap.now objects.now given (place, parameter_of parameter.now) ≡ Ok a) }
+    ensures fault { let given = arguments_of args.now in
+        IfErr result (λ e. e ≢ CallFault.Memory →
+        argument_by heap.now objects.now given (place, parameter_of parameter.now) ≡ Err e) }
+{
     let positional = args.positional.as_slice();
     if takes_all(parameter.2) && place < positional.len() {
         return some(heap, objects, parameter.1, &positional[place..]);
@@ -193,7 +216,11 @@ fn given(
     objects: &Objects,
     parameter: &Parameter,
     value: Option<Value>,
-) -> Result<Option<Argument>, CallFault> {
+) -> Result<Option<Argument>, CallFault>
+    ensures ok { IfOk result (λ a. given_by heap.now objects.now (parameter_of parameter.now) value ≡ Ok a) }
+    ensures fault { IfErr result (λ e. e ≢ CallFault.Memory →
+        given_by heap.now objects.now (parameter_of parameter.now) value ≡ Err e) }
+{
     let Some(value) = value else {
         return Ok(None);
     };
@@ -211,7 +238,10 @@ fn some(
     objects: &Objects,
     kind: Kind,
     values: &[Value],
-) -> Result<Option<Argument>, CallFault> {
+) -> Result<Option<Argument>, CallFault>
+    ensures ok { IfOk result (λ a. some_by heap.now objects.now kind values.now ≡ Ok a) }
+    ensures fault { IfErr result (λ e. e ≢ CallFault.Memory → some_by heap.now objects.now kind values.now ≡ Err e) }
+{
     Ok(Some(converted(heap, objects, kind, values)?))
 }
 

@@ -1,7 +1,7 @@
 //! Arguments that stand for builders.
-ghost use Rattle.std.specs.Prelude.{◌≡◌, ◌≢◌, Ok, Err, IfOk, IfErr};
+ghost use Rattle.std.specs.Prelude.{◌≡◌, ◌≢◌, Ok, Err, IfOk, IfErr, OnOk};
 ghost use Rattle.scons_calls.specs.Kinds.{pairs_in};
-ghost use Rattle.scons_calls.specs.Results.{each};
+ghost use Rattle.scons_calls.specs.Results.{and_one, each};
 ghost use Rattle.scons_calls.specs.Variables.{builder_by, builder_pair, builders_by, builders_fault};
 
 use crate::fault::CallFault;
@@ -17,25 +17,48 @@ pub fn builders(
     heap: &Heap,
     objects: &Objects,
     value: Value,
-) -> Result<Listing<(Text, u32)>, CallFault> {
+) -> Result<Listing<(Text, u32)>, CallFault>
+    ensures ok { IfOk result (λ builders. builders_by heap.now objects.now value ≡ Ok builders) }
+    ensures fault { IfErr result (λ e. e ≢ CallFault.Memory → builders_by heap.now objects.now value ≡ Err e) }
+{
     match value {
         Value::Dict(dict) => builders_in(heap, objects, dict),
         _ => Err(left_out(heap)),
     }
 }
 
+#[tactic(auto, using(crate::proofs::Loops::loops))]
 fn builders_in(
     heap: &Heap,
     objects: &Objects,
     dict: DictId,
-) -> Result<Listing<(Text, u32)>, CallFault> {
+) -> Result<Listing<(Text, u32)>, CallFault>
+    ensures ok { IfOk result (λ builders.
+        each (builder_pair heap.now objects.now) (pairs_in heap.now dict.0) ≡ Ok builders) }
+    ensures fault { IfErr result (λ e. e ≢ CallFault.Memory →
+        each (builder_pair heap.now objects.now) (pairs_in heap.now dict.0) ≡ Err e) }
+{
     let mut builders = Listing::empty(heap.allocator());
     'pairs: for at in 0..heap.dict_len(dict) {
         if let Some(pair) = pair_at(heap, dict, at) {
-            builders.push(named(heap, objects, pair)?)?;
+            push_named(heap, objects, &mut builders, pair)?;
         }
     }
     Ok(builders)
+}
+
+/// Puts a builder and its name behind others.
+fn push_named(
+    heap: &Heap,
+    objects: &Objects,
+    builders: &mut Listing<(Text, u32)>,
+    pair: (Value, Value),
+) -> Result<(), CallFault>
+    ensures ok { OnOk result (and_one builders.old (builder_pair heap.now objects.now pair) ≡ Ok builders.new) }
+    ensures fault { IfErr result (λ e. e ≢ CallFault.Memory →
+        and_one builders.old (builder_pair heap.now objects.now pair) ≡ Err e) }
+{
+    Ok(builders.push(named(heap, objects, pair)?)?)
 }
 
 /// A builder and its name.

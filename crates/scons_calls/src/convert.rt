@@ -19,7 +19,11 @@ pub fn converted(
     objects: &Objects,
     kind: Kind,
     values: &[Value],
-) -> Result<Argument, CallFault> {
+) -> Result<Argument, CallFault>
+    ensures ok { IfOk result (λ a. converted_by heap.now objects.now kind values.now ≡ Ok a) }
+    ensures fault { IfErr result (λ e. e ≢ CallFault.Memory →
+        converted_by heap.now objects.now kind values.now ≡ Err e) }
+{
     match kind {
         Kind::Nodes => Ok(Argument::Nodes(nodes(heap, objects, values)?)),
         Kind::Lines => Ok(Argument::Texts(lines(heap, values)?)),
@@ -36,14 +40,20 @@ fn single(
     objects: &Objects,
     kind: Kind,
     values: &[Value],
-) -> Result<Argument, CallFault> {
+) -> Result<Argument, CallFault>
+    ensures ok { IfOk result (λ a. single_by heap.now objects.now kind values.now ≡ Ok a) }
+    ensures fault { IfErr result (λ e. e ≢ CallFault.Memory → single_by heap.now objects.now kind values.now ≡ Err e) }
+{
     match values {
         [value] => one(heap, objects, kind, *value),
         [] | [_, _, ..] => Err(CallFault::Arguments),
     }
 }
 
-fn one(heap: &Heap, objects: &Objects, kind: Kind, value: Value) -> Result<Argument, CallFault> {
+fn one(heap: &Heap, objects: &Objects, kind: Kind, value: Value) -> Result<Argument, CallFault>
+    ensures ok { IfOk result (λ a. one_by heap.now objects.now kind value ≡ Ok a) }
+    ensures fault { IfErr result (λ e. e ≢ CallFault.Memory → one_by heap.now objects.now kind value ≡ Err e) }
+{
     match kind {
         Kind::Text => Ok(Argument::Text(text(heap, value)?)),
         Kind::Pairs => Ok(Argument::Pairs(pairs(heap, value)?)),

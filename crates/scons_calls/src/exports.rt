@@ -34,12 +34,21 @@ impl Exports {
 }
 
 /// Names, cut at white space, and dicts of names and values, flattened.
-pub fn exports_of(heap: &Heap, values: &[Value]) -> Result<Exports, CallFault> {
+#[tactic(auto, using(crate::proofs::Tails::tails))]
+pub fn exports_of(heap: &Heap, values: &[Value]) -> Result<Exports, CallFault>
+    ensures ok { IfOk result (λ exports. exports_by heap.now values.now ≡ Ok exports) }
+    ensures fault { IfErr result (λ e. e ≢ CallFault.Memory → exports_by heap.now values.now ≡ Err e) }
+{
     let items = flattened(heap, values)?;
     exports_in(heap, items.as_slice())
 }
 
-fn exports_in(heap: &Heap, items: &[Value]) -> Result<Exports, CallFault> {
+#[tactic(auto, using(crate::proofs::Loops::loops))]
+fn exports_in(heap: &Heap, items: &[Value]) -> Result<Exports, CallFault>
+    ensures ok { IfOk result (λ exports. along (exported_one heap.now) no_exports items.now ≡ Ok exports) }
+    ensures fault { IfErr result (λ e. e ≢ CallFault.Memory →
+        along (exported_one heap.now) no_exports items.now ≡ Err e) }
+{
     let mut exports = Exports::new(heap.allocator());
     for item in items {
         export(heap, &mut exports, *item)?;
@@ -48,7 +57,10 @@ fn exports_in(heap: &Heap, items: &[Value]) -> Result<Exports, CallFault> {
 }
 
 /// Puts what an item exports behind what is there.
-fn export(heap: &Heap, exports: &mut Exports, item: Value) -> Result<(), CallFault> {
+fn export(heap: &Heap, exports: &mut Exports, item: Value) -> Result<(), CallFault>
+    ensures ok { OnOk result (exported_one heap.now exports.old item ≡ Ok exports.new) }
+    ensures fault { IfErr result (λ e. e ≢ CallFault.Memory → exported_one heap.now exports.old item ≡ Err e) }
+{
     match item {
         Value::Dict(dict) => put_pairs(heap, dict, &mut exports.values),
         item => push_names(heap, item, &mut exports.names),

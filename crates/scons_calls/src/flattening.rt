@@ -23,7 +23,10 @@ impl Model for Flat {
 }
 
 /// The items of lists and tuples, and what is no list. None stands for no item where it is given by itself.
-pub fn flattened(heap: &Heap, values: &[Value]) -> Result<Vec<Value>, CallFault> {
+pub fn flattened(heap: &Heap, values: &[Value]) -> Result<Vec<Value>, CallFault>
+    ensures ok { IfOk result (λ items. flattened heap.now values.now ≡ Ok items.items) }
+    ensures fault { IfErr result (λ e. e ≢ CallFault.Memory → flattened heap.now values.now ≡ Err e) }
+{
     if let [Value::Nil] = values {
         return Ok(Vec::new(heap.allocator()));
     }
@@ -31,7 +34,10 @@ pub fn flattened(heap: &Heap, values: &[Value]) -> Result<Vec<Value>, CallFault>
 }
 
 /// The same, where None is an item wherever it stands.
-pub fn flat_items(heap: &Heap, values: &[Value]) -> Result<Vec<Value>, CallFault> {
+pub fn flat_items(heap: &Heap, values: &[Value]) -> Result<Vec<Value>, CallFault>
+    ensures ok { IfOk result (λ items. flat_items heap.now values.now ≡ Ok items.items) }
+    ensures fault { IfErr result (λ e. e ≢ CallFault.Memory → flat_items heap.now values.now ≡ Err e) }
+{
     let mut flat = Flat {
         room: LIST_LIMIT,
         items: Vec::new(heap.allocator()),
@@ -41,7 +47,11 @@ pub fn flat_items(heap: &Heap, values: &[Value]) -> Result<Vec<Value>, CallFault
     Ok(items)
 }
 
-fn flatten(heap: &Heap, values: &[Value], levels: u32, flat: &mut Flat) -> Result<(), CallFault> {
+#[tactic(auto, using(crate::proofs::Flats::flats, crate::proofs::Loops::loops))]
+fn flatten(heap: &Heap, values: &[Value], levels: u32, flat: &mut Flat) -> Result<(), CallFault>
+    ensures ok { OnOk result (flat_by heap.now levels flat.old values.now ≡ Ok flat.new) }
+    ensures fault { IfErr result (λ e. e ≢ CallFault.Memory → flat_by heap.now levels flat.old values.now ≡ Err e) }
+{
     for value in values {
         if flat.room == 0 {
             return Err(CallFault::Arguments);

@@ -1,7 +1,11 @@
 //! The names of SCons that are left out: each is refused by its name, wherever a script has it.
+ghost use Rattle.std.specs.Prelude.{◌≡◌};
+ghost use Rattle.std.specs.List.{list_any};
+ghost use Rattle.std.specs.Str.{bytes_eq};
+ghost use Rattle.scons_calls.specs.LeftOut.{is_name_left_out, is_attribute_left_out, attributes_left_out};
 
 /// What SCons has among the names of scripts, in the order of its manual; behind it what the manual doesn't tell of.
-const OF_SCRIPTS: &[&str] = &[
+const OF_SCRIPTS: [&str; 131] = [
     // Builders.
     "CFile",
     "CXXFile",
@@ -143,7 +147,7 @@ const OF_SCRIPTS: &[&str] = &[
 ];
 
 /// What SCons has among the attributes of environments beside those names.
-const OF_ENVIRONMENTS: &[&str] = &[
+const OF_ENVIRONMENTS: [&str; 35] = [
     "CopyAs",
     "CopyTo",
     "Export",
@@ -182,11 +186,28 @@ const OF_ENVIRONMENTS: &[&str] = &[
 ];
 
 /// Whether SCons has a name of scripts that is left out here.
-pub fn is_left_out(text: &str) -> bool {
-    OF_SCRIPTS.contains(&text)
+pub fn is_left_out(text: &str) -> bool
+    ensures { result ≡ is_name_left_out text.now }
+{
+    is_among(&OF_SCRIPTS, text)
 }
 
 /// Whether environments of SCons have an attribute that is left out here.
-pub fn is_left_out_of_environments(text: &str) -> bool {
-    is_left_out(text) || OF_ENVIRONMENTS.contains(&text)
+pub fn is_left_out_of_environments(text: &str) -> bool
+    ensures { result ≡ is_attribute_left_out text.now }
+{
+    is_left_out(text) || is_attribute(text)
+}
+
+fn is_attribute(text: &str) -> bool
+    ensures { result ≡ list_any (λ n. bytes_eq n text.now) attributes_left_out }
+{
+    is_among(&OF_ENVIRONMENTS, text)
+}
+
+/// Whether a name is one of some.
+pub(crate) fn is_among(names: &[&str], name: &str) -> bool
+    ensures { result ≡ list_any (λ n. bytes_eq n.now name.now) names.now }
+{
+    names.iter().any(|other| *other == name)
 }

@@ -42,7 +42,11 @@ fn place_of(thing: Option<&Thing>) -> Result<Given, CallFault>
 }
 
 /// Path texts and nodes, flattened.
-pub fn nodes(heap: &Heap, objects: &Objects, values: &[Value]) -> Result<Nodes, CallFault> {
+#[tactic(auto, using(crate::proofs::Tails::tails))]
+pub fn nodes(heap: &Heap, objects: &Objects, values: &[Value]) -> Result<Nodes, CallFault>
+    ensures ok { IfOk result (λ nodes. nodes_by heap.now objects.now values.now ≡ Ok nodes) }
+    ensures fault { IfErr result (λ e. e ≢ CallFault.Memory → nodes_by heap.now objects.now values.now ≡ Err e) }
+{
     let items = flattened(heap, values)?;
     places(heap, objects, items.as_slice())
 }

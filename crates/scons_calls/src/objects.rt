@@ -1,6 +1,7 @@
 //! The objects of scripts, by their numbers. A thing has one object, which is found by hash.
-ghost use Rattle.std.specs.Prelude.{◌≡◌, [], IfOk, OnOk, slice_get, option_copied};
+ghost use Rattle.std.specs.Prelude.{◌≡◌, ℕ, List, [], IfOk, IsSome, OnOk, slice_get, option_copied};
 ghost use Rattle.std.specs.Option.{option_map};
+ghost use Rattle.scons_calls.specs.Names.{name_alone};
 ghost use Rattle.scons_calls.specs.Things.{node_at, numbered, numbered_node, number_named, number_of_name, with_first_names, with_names};
 
 use crate::name::NameId;
@@ -98,11 +99,18 @@ impl Objects {
     }
 
     /// Gives each name of SCons its object.
-    pub fn add_names(&mut self) -> Result<(), Memory> {
+    pub fn add_names(&mut self) -> Result<(), Memory>
+        ensures names { OnOk result (self.new ≡ with_names self.old) }
+        // So each name of scripts has its object.
+        ensures objects { OnOk result ((text : List ℕ) → IsSome (name_alone text) → IsSome (number_named self.new text)) }
+    {
         self.add_first_names(NameId::count())
     }
 
-    fn add_first_names(&mut self, count: usize) -> Result<(), Memory> {
+    #[tactic(auto, using(crate::proofs::Numbering::numbering))]
+    fn add_first_names(&mut self, count: usize) -> Result<(), Memory>
+        ensures { OnOk result (self.new ≡ with_first_names count self.old) }
+    {
         for place in 0..count {
             self.object(Thing::Name(NameId(place)))?;
         }

@@ -1,7 +1,7 @@
 //! What a script says is replaced in a text.
-ghost use Rattle.std.specs.Prelude.{◌≡◌, ◌≢◌, Ok, Err, IfOk, IfErr};
+ghost use Rattle.std.specs.Prelude.{◌≡◌, ◌≢◌, Ok, Err, IfOk, IfErr, OnOk};
 ghost use Rattle.scons_calls.specs.Kinds.{key_by, replacement_by, replaced_pair, pairs_by, pairs_in, replacing_fault};
-ghost use Rattle.scons_calls.specs.Results.{each};
+ghost use Rattle.scons_calls.specs.Results.{and_one, each};
 
 use crate::fault::CallFault;
 use crate::pairs::pair_at;
@@ -11,21 +11,37 @@ use scons_base::{Listing, Text};
 use scons_decls::Pairs;
 
 /// The pairs of a dict, in its order: keys that aren't empty, with texts and numbers.
-pub fn pairs(heap: &Heap, value: Value) -> Result<Pairs, CallFault> {
+pub fn pairs(heap: &Heap, value: Value) -> Result<Pairs, CallFault>
+    ensures ok { IfOk result (λ pairs. pairs_by heap.now value ≡ Ok pairs) }
+    ensures fault { IfErr result (λ e. e ≢ CallFault.Memory → pairs_by heap.now value ≡ Err e) }
+{
     match value {
         Value::Dict(dict) => pairs_of(heap, dict),
         _ => Err(refused(heap)),
     }
 }
 
-fn pairs_of(heap: &Heap, dict: DictId) -> Result<Pairs, CallFault> {
+#[tactic(auto, using(crate::proofs::Loops::loops))]
+fn pairs_of(heap: &Heap, dict: DictId) -> Result<Pairs, CallFault>
+    ensures ok { IfOk result (λ pairs. each (replaced_pair heap.now) (pairs_in heap.now dict.0) ≡ Ok pairs) }
+    ensures fault { IfErr result (λ e. e ≢ CallFault.Memory →
+        each (replaced_pair heap.now) (pairs_in heap.now dict.0) ≡ Err e) }
+{
     let mut pairs = Listing::empty(heap.allocator());
     'pairs: for at in 0..heap.dict_len(dict) {
         if let Some(pair) = pair_at(heap, dict, at) {
-            pairs.push(pair_of(heap, pair)?)?;
+            push_pair(heap, &mut pairs, pair)?;
         }
     }
     Ok(pairs)
+}
+
+fn push_pair(heap: &Heap, pairs: &mut Pairs, pair: (Value, Value)) -> Result<(), CallFault>
+    ensures ok { OnOk result (and_one pairs.old (replaced_pair heap.now pair) ≡ Ok pairs.new) }
+    ensures fault { IfErr result (λ e. e ≢ CallFault.Memory →
+        and_one pairs.old (replaced_pair heap.now pair) ≡ Err e) }
+{
+    Ok(pairs.push(pair_of(heap, pair)?)?)
 }
 
 fn pair_of(heap: &Heap, pair: (Value, Value)) -> Result<(Text, Text), CallFault>

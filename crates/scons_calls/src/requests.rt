@@ -23,12 +23,18 @@ use scons_decls::{Builder, Call, Change, Maker, Nodes, RuleCall, SayCall, Variab
 use std::alloc::Global;
 
 /// What a call of a name asks.
+#[tactic(auto, using(crate::proofs::Tails::tails))]
 pub fn request_of(
     heap: &Heap,
     objects: &Objects,
     name: Name,
     args: &Args,
-) -> Result<Request, CallFault> {
+) -> Result<Request, CallFault>
+    ensures ok { let given = arguments_of args.now in
+        IfOk result (λ r. request_of heap.now objects.now name given ≡ Ok r) }
+    ensures fault { let given = arguments_of args.now in
+        IfErr result (λ e. e ≢ CallFault.Memory → request_of heap.now objects.now name given ≡ Err e) }
+{
     let signature = signature(name);
     let mut arguments = bound(heap, objects, &signature, args)?;
     let variables = variables(heap, objects, &signature, &args.named)?;
@@ -36,12 +42,18 @@ pub fn request_of(
 }
 
 /// What a call of an environment's own builder asks.
+#[tactic(auto, using(crate::proofs::Tails::tails))]
 pub fn own_request_of(
     heap: &Heap,
     objects: &Objects,
     name: &Text,
     args: &Args,
-) -> Result<Request, CallFault> {
+) -> Result<Request, CallFault>
+    ensures ok { let given = arguments_of args.now in
+        IfOk result (λ r. own_request_of heap.now objects.now name.now given ≡ Ok r) }
+    ensures fault { let given = arguments_of args.now in
+        IfErr result (λ e. e ≢ CallFault.Memory → own_request_of heap.now objects.now name.now given ≡ Err e) }
+{
     let signature = own_builder_signature();
     let mut arguments = bound(heap, objects, &signature, args)?;
     let variables = variables(heap, objects, &signature, &args.named)?;

@@ -61,7 +61,11 @@ fn line(heap: &Heap, value: Value) -> Result<Text, CallFault>
 }
 
 /// Texts as they stand, flattened.
-pub fn texts(heap: &Heap, values: &[Value]) -> Result<Texts, CallFault> {
+#[tactic(auto, using(crate::proofs::Tails::tails))]
+pub fn texts(heap: &Heap, values: &[Value]) -> Result<Texts, CallFault>
+    ensures ok { IfOk result (λ texts. texts_by heap.now values.now ≡ Ok texts) }
+    ensures fault { IfErr result (λ e. e ≢ CallFault.Memory → texts_by heap.now values.now ≡ Err e) }
+{
     let items = flattened(heap, values)?;
     texts_of(heap, items.as_slice())
 }
@@ -79,12 +83,20 @@ fn texts_of(heap: &Heap, items: &[Value]) -> Result<Texts, CallFault>
 }
 
 /// Names, cut at white space and flattened. `*` stands for all names.
-pub fn names(heap: &Heap, values: &[Value]) -> Result<Texts, CallFault> {
+#[tactic(auto, using(crate::proofs::Tails::tails))]
+pub fn names(heap: &Heap, values: &[Value]) -> Result<Texts, CallFault>
+    ensures ok { IfOk result (λ names. names_by heap.now values.now ≡ Ok names) }
+    ensures fault { IfErr result (λ e. e ≢ CallFault.Memory → names_by heap.now values.now ≡ Err e) }
+{
     let items = flattened(heap, values)?;
     names_of(heap, items.as_slice())
 }
 
-fn names_of(heap: &Heap, items: &[Value]) -> Result<Texts, CallFault> {
+#[tactic(auto, using(crate::proofs::Loops::loops))]
+fn names_of(heap: &Heap, items: &[Value]) -> Result<Texts, CallFault>
+    ensures ok { IfOk result (λ names. each_joined (words_by heap.now) items.now ≡ Ok names) }
+    ensures fault { IfErr result (λ e. e ≢ CallFault.Memory → each_joined (words_by heap.now) items.now ≡ Err e) }
+{
     let mut names = Texts::new(Vec::new(heap.allocator()));
     for item in items {
         push_names(heap, *item, &mut names)?;
@@ -93,7 +105,10 @@ fn names_of(heap: &Heap, items: &[Value]) -> Result<Texts, CallFault> {
 }
 
 /// Puts the names that a text holds behind others.
-pub fn push_names(heap: &Heap, value: Value, names: &mut Texts) -> Result<(), CallFault> {
+pub fn push_names(heap: &Heap, value: Value, names: &mut Texts) -> Result<(), CallFault>
+    ensures ok { OnOk result (and_more names.old (words_by heap.now value) ≡ Ok names.new) }
+    ensures fault { IfErr result (λ e. e ≢ CallFault.Memory → and_more names.old (words_by heap.now value) ≡ Err e) }
+{
     let more = names_in(heap, value)?;
     push_all(names, more.as_slice())?;
     Ok(())
@@ -109,7 +124,10 @@ fn push_all(names: &mut Texts, more: &[Text]) -> Result<(), Memory>
 }
 
 /// The names that a text holds.
-fn names_in(heap: &Heap, value: Value) -> Result<Texts, CallFault> {
+fn names_in(heap: &Heap, value: Value) -> Result<Texts, CallFault>
+    ensures ok { IfOk result (λ names. words_by heap.now value ≡ Ok names) }
+    ensures fault { IfErr result (λ e. e ≢ CallFault.Memory → words_by heap.now value ≡ Err e) }
+{
     let Some(text) = heap.text_of(value) else {
         return Err(CallFault::Arguments);
     };
@@ -118,7 +136,11 @@ fn names_in(heap: &Heap, value: Value) -> Result<Texts, CallFault> {
 }
 
 /// Words, each of which may stand for a name.
-fn checked(heap: &Heap, words: &[&str]) -> Result<Texts, CallFault> {
+#[tactic(auto, using(crate::proofs::Loops::loops))]
+fn checked(heap: &Heap, words: &[&str]) -> Result<Texts, CallFault>
+    ensures ok { IfOk result (λ names. each word_by (map (λ w. w.now) words.now) ≡ Ok names) }
+    ensures fault { IfErr result (λ e. e ≢ CallFault.Memory → each word_by (map (λ w. w.now) words.now) ≡ Err e) }
+{
     let mut names = Texts::new(Vec::new(heap.allocator()));
     for word in words {
         names.push(name_of(heap, *word)?)?;

@@ -21,7 +21,8 @@ pub enum Thing {
 }
 
 impl PartialEq for Thing {
-    ghost use Rattle.scons_calls.specs.Things.{thing_eq, thing_equivalence};
+    ghost use Rattle.scons_calls.specs.Laws.{thing_equivalence};
+    ghost use Rattle.scons_calls.specs.Things.{thing_eq};
     ghost use Rattle.std.specs.Cmp.{partial_equiv_from_equiv};
 
     ghost eq = { thing_eq };
@@ -45,7 +46,7 @@ impl PartialEq for Thing {
 }
 
 impl Eq for Thing {
-    ghost use Rattle.scons_calls.specs.Things.{thing_equivalence};
+    ghost use Rattle.scons_calls.specs.Laws.{thing_equivalence};
 
     ghost laws = { thing_equivalence };
 }

@@ -63,6 +63,8 @@ pub fn given_value(
     objects: &mut Objects,
     given: &Given,
 ) -> Result<Value, ValueFault>
+    ensures ok { IfOk result (λ v. given_value objects.old heap.old given.now ≡ Ok (v, objects.new, heap.new)) }
+    ensures fault { IfErr result (λ e. e ≢ ValueFault.Memory → given_value objects.old heap.old given.now ≡ Err e) }
     ensures stands { Extends heap.old heap.new }
 {
     match given {
@@ -111,6 +113,8 @@ pub fn nodes_value(
     objects: &mut Objects,
     nodes: &[Given],
 ) -> Result<Value, ValueFault>
+    ensures ok { IfOk result (λ v. nodes_value objects.old heap.old nodes.now ≡ Ok (v, objects.new, heap.new)) }
+    ensures fault { IfErr result (λ e. e ≢ ValueFault.Memory → nodes_value objects.old heap.old nodes.now ≡ Err e) }
     ensures stands { Extends heap.old heap.new }
 {
     let values = node_values(heap, objects, nodes)?;
@@ -123,6 +127,8 @@ fn node_values(
     objects: &mut Objects,
     nodes: &[Given],
 ) -> Result<Vec<Value>, ValueFault>
+    ensures ok { IfOk result (λ v. node_values objects.old heap.old nodes.now ≡ Ok (v.items, objects.new, heap.new)) }
+    ensures fault { IfErr result (λ e. e ≢ ValueFault.Memory → node_values objects.old heap.old nodes.now ≡ Err e) }
     ensures stands { Extends heap.old heap.new }
 {
     let mut values = Vec::new(heap.allocator());

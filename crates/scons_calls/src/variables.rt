@@ -3,8 +3,8 @@ ghost use Rattle.std.specs.Prelude.{◌≡◌, ◌≢◌, Ok, Err, IfOk, IfErr, 
 ghost use Rattle.std.specs.List.{list_all};
 ghost use Rattle.env_vars.specs.Given.{flag_text};
 ghost use Rattle.scons_calls.specs.Identifiers.{is_letter, is_part, is_identifier};
-ghost use Rattle.scons_calls.specs.Results.{and_more, each, each_joined};
-ghost use Rattle.scons_calls.specs.Variables.{item_by, item_of, entry_by, pair_by, dict_by, definition_by, define_by, only, macro_by, macros_by, list_for, is_macros, variable_by};
+ghost use Rattle.scons_calls.specs.Results.{and_one, and_more, each, each_joined};
+ghost use Rattle.scons_calls.specs.Variables.{item_by, item_of, entry_by, pair_by, dict_by, definition_by, define_by, only, macro_by, macros_by, tuple_macros, list_for, is_macros, variable_by};
 
 use crate::fault::CallFault;
 use crate::flattening::flattened;
@@ -55,7 +55,10 @@ pub fn variable_of(
     objects: &Objects,
     name: &str,
     value: Value,
-) -> Result<EnvValue, CallFault> {
+) -> Result<EnvValue, CallFault>
+    ensures ok { IfOk result (λ x. variable_by heap.now objects.now name.now value ≡ Ok x) }
+    ensures fault { IfErr result (λ e. e ≢ CallFault.Memory → variable_by heap.now objects.now name.now value ≡ Err e) }
+{
     match value {
         Value::Nil => Ok(EnvValue::Nil),
         Value::Bool(flag) => Ok(EnvValue::Bool(flag)),
@@ -66,12 +69,17 @@ pub fn variable_of(
     }
 }
 
+#[tactic(auto, using(crate::proofs::Tails::tails))]
 fn list(
     heap: &Heap,
     objects: &Objects,
     name: &str,
     value: Value,
-) -> Result<Listing<Item>, CallFault> {
+) -> Result<Listing<Item>, CallFault>
+    ensures ok { IfOk result (λ items. list_for heap.now objects.now (is_macros name.now) value ≡ Ok items) }
+    ensures fault { IfErr result (λ e. e ≢ CallFault.Memory →
+        list_for heap.now objects.now (is_macros name.now) value ≡ Err e) }
+{
     if name == DEFINES {
         return defines(heap, objects, value);
     }
@@ -122,14 +130,32 @@ fn word_of(flag: bool) -> &'static str
 }
 
 /// The pairs of a dict.
-fn pairs(heap: &Heap, objects: &Objects, dict: DictId) -> Result<Listing<(Text, Item)>, CallFault> {
+#[tactic(auto, using(crate::proofs::Loops::loops))]
+fn pairs(heap: &Heap, objects: &Objects, dict: DictId) -> Result<Listing<(Text, Item)>, CallFault>
+    ensures ok { IfOk result (λ pairs. dict_by heap.now objects.now dict.0 ≡ Ok pairs) }
+    ensures fault { IfErr result (λ e. e ≢ CallFault.Memory → dict_by heap.now objects.now dict.0 ≡ Err e) }
+{
     let mut pairs = Listing::empty(heap.allocator());
     'pairs: for at in 0..heap.dict_len(dict) {
         if let Some((key, value)) = pair_at(heap, dict, at) {
-            pairs.push(pair(heap, objects, key, value)?)?;
+            push_pair(heap, objects, &mut pairs, key, value)?;
         }
     }
     Ok(pairs)
+}
+
+fn push_pair(
+    heap: &Heap,
+    objects: &Objects,
+    pairs: &mut Listing<(Text, Item)>,
+    key: Value,
+    value: Value,
+) -> Result<(), CallFault>
+    ensures ok { OnOk result (and_one pairs.old (pair_by heap.now objects.now (key, value)) ≡ Ok pairs.new) }
+    ensures fault { IfErr result (λ e. e ≢ CallFault.Memory →
+        and_one pairs.old (pair_by heap.now objects.now (key, value)) ≡ Err e) }
+{
+    Ok(pairs.push(pair(heap, objects, key, value)?)?)
 }
 
 /// A pair of a dict.
@@ -153,12 +179,28 @@ fn entry(heap: &Heap, objects: &Objects, name: &Text, value: Value) -> Result<It
     }
 }
 
-/// The macros of a list, or of one value: a tuple of two is a pair of a name and a value.
-fn defines(heap: &Heap, objects: &Objects, value: Value) -> Result<Listing<Item>, CallFault> {
-    match (value, heap.items_of(value)) {
-        (Value::Tuple(_), Some([name, value])) => only(heap, define(heap, *name, *value)),
-        (_, Some(inner)) => macros(heap, objects, inner),
-        (value, None) => only(heap, item(heap, objects, value)),
+/// The macros of a list, or of one value.
+fn defines(heap: &Heap, objects: &Objects, value: Value) -> Result<Listing<Item>, CallFault>
+    ensures ok { IfOk result (λ items. macros_by heap.now objects.now value ≡ Ok items) }
+    ensures fault { IfErr result (λ e. e ≢ CallFault.Memory → macros_by heap.now objects.now value ≡ Err e) }
+{
+    let Some(inner) = heap.items_of(value) else {
+        return only(heap, item(heap, objects, value));
+    };
+    match value {
+        Value::Tuple(_) => tuple_macros(heap, objects, inner),
+        _ => macros(heap, objects, inner),
+    }
+}
+
+/// A tuple of two is a pair of a name and a value.
+fn tuple_macros(heap: &Heap, objects: &Objects, inner: &[Value]) -> Result<Listing<Item>, CallFault>
+    ensures ok { IfOk result (λ items. tuple_macros heap.now objects.now inner.now ≡ Ok items) }
+    ensures fault { IfErr result (λ e. e ≢ CallFault.Memory → tuple_macros heap.now objects.now inner.now ≡ Err e) }
+{
+    match inner {
+        [name, value] => only(heap, define(heap, *name, *value)),
+        [] | [_] | [_, _, _, ..] => macros(heap, objects, inner),
     }
 }
 

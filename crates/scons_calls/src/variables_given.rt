@@ -21,7 +21,11 @@ pub fn variables(
     objects: &Objects,
     signature: &Signature,
     named: &Scope,
-) -> Result<Variables, CallFault> {
+) -> Result<Variables, CallFault>
+    ensures ok { IfOk result (λ v. variables_by heap.now objects.now signature.now named.now ≡ Ok v) }
+    ensures fault { IfErr result (λ e. e ≢ CallFault.Memory →
+        variables_by heap.now objects.now signature.now named.now ≡ Err e) }
+{
     match signature.others {
         Others::Variables => all(heap, objects, signature, named),
         Others::Refused | Others::LeftOut | Others::Exports => Ok(no_variables(heap.allocator())),
@@ -37,12 +41,17 @@ fn no_variables(alloc: Global) -> Variables
     }
 }
 
+#[tactic(auto, using(crate::proofs::Loops::loops))]
 fn all(
     heap: &Heap,
     objects: &Objects,
     signature: &Signature,
     named: &Scope,
-) -> Result<Variables, CallFault> {
+) -> Result<Variables, CallFault>
+    ensures ok { IfOk result (λ v. all_variables heap.now objects.now signature.now named.now ≡ Ok v) }
+    ensures fault { IfErr result (λ e. e ≢ CallFault.Memory →
+        all_variables heap.now objects.now signature.now named.now ≡ Err e) }
+{
     let mut variables = no_variables(heap.allocator());
     'names: for at in 0..named.len() {
         if let Some((name, value)) = named.at(at) {
@@ -60,7 +69,12 @@ fn take_up(
     variables: &mut Variables,
     name: &str,
     value: Value,
-) -> Result<(), CallFault> {
+) -> Result<(), CallFault>
+    ensures ok { OnOk result (
+        one_variable heap.now objects.now signature.now variables.old (name.now, value) ≡ Ok variables.new) }
+    ensures fault { IfErr result (λ e. e ≢ CallFault.Memory →
+        one_variable heap.now objects.now signature.now variables.old (name.now, value) ≡ Err e) }
+{
     match place_of(signature, name) {
         Some(_) => Ok(()),
         None => put_variable(heap, objects, variables, name, value),
@@ -73,7 +87,12 @@ fn put_variable(
     variables: &mut Variables,
     name: &str,
     value: Value,
-) -> Result<(), CallFault> {
+) -> Result<(), CallFault>
+    ensures ok { OnOk result (
+        put_variable heap.now objects.now variables.old (name.now, value) (is_builders name.now) ≡ Ok variables.new) }
+    ensures fault { IfErr result (λ e. e ≢ CallFault.Memory →
+        put_variable heap.now objects.now variables.old (name.now, value) (is_builders name.now) ≡ Err e) }
+{
     if name == "BUILDERS" {
         variables.builders = builders(heap, objects, value)?;
         return Ok(());

@@ -1,0 +1,6 @@
+use Rattle.std.proofs.Common.{◌∙◌}
+use Rattle.scons_calls.proofs.Rows.{names_left_out_written}
+use Rattle.scons_calls.proofs.left_out.is_left_out.Goals as goal
+
+pub returns : goal.returns
+returns c = c.is_among.ensures ∙ names_left_out_written c.args.text.now
