@@ -1,4 +1,5 @@
 mod Exits
+pub mod Keeping
 pub mod Lasts
 pub mod Meant
 pub mod Plain

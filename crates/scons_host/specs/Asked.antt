@@ -1,5 +1,5 @@
 -- Attributes and items of objects: scons(1), "Construction Environments" and "File and Directory Nodes".
-use Rattle.std.specs.Prelude.{◌≡◌, ◌⊎◌, ℕ, Bool, List, ◌∷◌, ◌++◌, Option, Some, None, Result, Ok, Err, codes, is_some, slice_get, if◌then◌else◌}
+use Rattle.std.specs.Prelude.{ℕ, Bool, List, ◌∷◌, ◌++◌, Option, Some, None, Result, Ok, Err, codes, is_some, slice_get, if◌then◌else◌}
 use Rattle.std.specs.Option.{ok_or, option_map}
 use Rattle.std.specs.Str.{bytes_eq}
 use Rattle.scons_base.specs.declared.ids.EnvId.{EnvId}
@@ -24,6 +24,7 @@ use Rattle.scons_calls.specs.declared.thing.Thing.{Thing}
 use Rattle.scons_calls.specs.declared.thing.Thing.TheVariants as thing
 use Rattle.scons_calls.specs.Identifiers.{is_identifier}
 use Rattle.scons_calls.specs.Kinds.{pairs_in}
+use Rattle.scons_calls.specs.LeftOut.{is_attribute_left_out}
 use Rattle.scons_calls.specs.Names.{name_of_method}
 use Rattle.scons_calls.specs.Results.{and_then, along}
 use Rattle.scons_calls.specs.Things.{Things, numbered, number_named}
@@ -95,9 +96,9 @@ method_by name env None None = None
 abbrev pub method_of : SoFar → EnvId → List ℕ → Option Thing
 method_of s env name = method_by name env (builder_of s.declared.envs env.0 name) (name_of_method name)
 
--- an attribute that environments haven't
+-- an attribute that environments haven't: one that SCons's have, and that is left out here, is told as such
 abbrev pub no_method : List ℕ → Refusal
-no_method name = Kind (read.Name (fault.UnknownBuilder name))
+no_method name = if is_attribute_left_out name then left_out name else Kind (read.Name (fault.UnknownBuilder name))
 
 abbrev pub method_if : SoFar → List ℕ → Option Thing → Result (Value × SoFar) Refusal
 method_if s name (Some one) = Ok (object_of s one)
@@ -134,11 +135,6 @@ attribute_of s h name subject.Called = Err (bad_argument name)
 -- `env.Name`, `node.path`
 abbrev pub attribute : SoFar → Objects → ℕ → List ℕ → Step Value
 attribute s h object name = attribute_of s h name (subject_at s object)
-
--- The refusal of an attribute. One that SCons's environments have, and that is left out here, is told as left out in place of unknown;
--- which these are isn't said.
-abbrev pub IsRefused : {X : Type 0} → List ℕ → Refusal → Result X Refusal → Type 0
-IsRefused name e by = (by ≡ Err e) ⊎ ((by ≡ Err (no_method name)) × (e ≡ left_out name))
 
 -- the text that stands in the brackets
 abbrev pub key_of : Objects → ℕ → Value → Result (List ℕ) Refusal
@@ -205,12 +201,15 @@ item_of s h place object name subject.Called = Err (bad_argument (shown_as h obj
 abbrev pub item : SoFar → Objects → Place → ℕ → Value → Step Value
 item s h place object key = and_then (key_of h object key) (λ name. item_of s h place object name (subject_at s object))
 
+-- the value that a script gives a variable
+abbrev pub variable_given : Objects → Things → List ℕ → Value → Result EnvValue Refusal
+variable_given h things name x =
+    if is_identifier name then told_by (of_call name) (variable_by h things name x) else Err (bad_argument name)
+
 -- `env['X'] = v`
 abbrev pub set_variable : SoFar → Objects → Place → ℕ → List ℕ → Value → Result SoFar Refusal
 set_variable s h place env name x =
-    if is_identifier name
-    then and_then (told_by (of_call name) (variable_by h s.objects name x)) (λ y. made s place env (call.Set name y))
-    else Err (bad_argument name)
+    and_then (variable_given h s.objects name x) (λ y. made s place env (call.Set name y))
 
 -- the number of a builder that a name is given
 abbrev pub builder_given : Objects → Things → Value → Result ℕ Refusal

@@ -1,4 +1,6 @@
+pub mod Answers
 pub mod Asked
+pub mod Called
 pub mod Causes
 pub mod Files
 pub mod Kinds

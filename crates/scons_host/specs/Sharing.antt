@@ -54,20 +54,17 @@ imported_name s scope name =
 abbrev pub import : SoFar → List (List ℕ) → Result Names Refusal
 import s names = along (imported_name s) [] names
 
-abbrev pub has_returned : Waiting → Value → Waiting
-has_returned call x = record call { returned = x }
+abbrev pub returned_in : List Waiting → Value → Option Waiting → List Waiting
+returned_in waiting x (Some call) = slice_set waiting (length waiting - 1) (record call { returned = x })
+returned_in waiting x None = waiting
 
--- the innermost call with another one in its place
-abbrev pub with_innermost : SoFar → Waiting → SoFar
-with_innermost s call = record s { waiting = slice_set s.waiting (length s.waiting - 1) call }
+-- calls that wait, where the script of the innermost one has returned this; a first script returns it to no one
+abbrev pub with_returned : List Waiting → Value → List Waiting
+with_returned waiting x = returned_in waiting x (slice_get waiting (length waiting - 1))
 
-abbrev keep_in : SoFar → Value → Option Waiting → SoFar
-keep_in s x (Some call) = with_innermost s (has_returned call x)
-keep_in s x None = s
-
--- what a script returns is kept for its call; a first script returns it to no one
+-- what a script returns is kept for its call
 abbrev pub keep : SoFar → Value → SoFar
-keep s x = keep_in s x (innermost s)
+keep s x = record s { waiting = with_returned s.waiting x }
 
 -- one value as it is, several as a tuple
 abbrev pub one_or_tuple : Objects → List Value → Result (Value × Objects) Refusal

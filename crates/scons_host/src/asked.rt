@@ -1,5 +1,5 @@
 //! Attributes and items of objects.
-ghost use Rattle.std.specs.Prelude.{◌≡◌, ◌≢◌, ◌⊎◌, Ok, Err, IfOk, IfErr, OnOk, string_bytes};
+ghost use Rattle.std.specs.Prelude.{◌≡◌, ◌≢◌, Ok, Err, IfOk, IfErr, OnOk, string_bytes};
 ghost use Rattle.py_host.specs.Extends.{Extends};
 ghost use Rattle.scons_calls.specs.Kinds.{pairs_in};
 ghost use Rattle.scons_calls.specs.Results.{along};
@@ -68,7 +68,7 @@ pub fn attribute(
     ensures ok { IfOk result (λ v.
         spec.attribute (so_far state.old) heap.old object.0 name.now ≡ Ok (v, so_far state.new, heap.new)) }
     ensures fault { IfErr result (λ e. e ≢ Refusal.Memory →
-        spec.IsRefused name.now e (spec.attribute (so_far state.old) heap.old object.0 name.now)) }
+        spec.attribute (so_far state.old) heap.old object.0 name.now ≡ Err e) }
 {
     match subject_of(state, object)? {
         Subject::Env(env) => method(state, env, name),
@@ -81,7 +81,7 @@ pub fn attribute(
 /// The method of an environment: a builder that the environment has, or a name of SCons.
 fn method(state: &mut State, env: EnvId, name: &str) -> Result<Value, Refusal>
     ensures ok { IfOk result (λ v. spec.method (so_far state.old) env name.now ≡ Ok (v, so_far state.new)) }
-    ensures fault { IfErr result (λ e. e ≢ Refusal.Memory → spec.IsRefused name.now e (spec.method (so_far state.old) env name.now)) }
+    ensures fault { IfErr result (λ e. e ≢ Refusal.Memory → spec.method (so_far state.old) env name.now ≡ Err e) }
 {
     let Some(thing) = method_of(state, env, name)? else {
         return Err(no_method(state.alloc, name));
@@ -111,7 +111,7 @@ fn method_of(state: &State, env: EnvId, name: &str) -> Result<Option<Thing>, Mem
 }
 
 fn no_method(alloc: Global, name: &str) -> Refusal
-    ensures { result ≢ Refusal.Memory → (result ≡ spec.no_method name.now) ⊎ (result ≡ told.left_out name.now) }
+    ensures { result ≢ Refusal.Memory → result ≡ spec.no_method name.now }
 {
     if is_left_out_of_environments(name) {
         return left_out(alloc, name);
@@ -232,7 +232,11 @@ pub fn set_item(
     object: HostId,
     key: Value,
     value: Value,
-) -> Result<(), Refusal> {
+) -> Result<(), Refusal>
+    ensures ok { OnOk result (spec.set_item (so_far state.old) heap.now place object.0 key value ≡ Ok (so_far state.new)) }
+    ensures fault { IfErr result (λ e. e ≢ Refusal.Memory →
+        spec.set_item (so_far state.old) heap.now place object.0 key value ≡ Err e) }
+{
     let name = key_text(state, heap, object, key)?;
     match subject_of(state, object)? {
         Subject::Env(env) if name.as_str() == BUILDERS => {
@@ -251,7 +255,11 @@ fn set_variable(
     env: EnvId,
     name: Text,
     value: Value,
-) -> Result<(), Refusal> {
+) -> Result<(), Refusal>
+    ensures ok { OnOk result (spec.set_variable (so_far state.old) heap.now place env.0 name value ≡ Ok (so_far state.new)) }
+    ensures fault { IfErr result (λ e. e ≢ Refusal.Memory →
+        spec.set_variable (so_far state.old) heap.now place env.0 name value ≡ Err e) }
+{
     let value = variable_value_of(state, heap, name.as_str(), value)?;
     made(state, place, env, Call::Set(name, value))
 }
@@ -262,7 +270,11 @@ fn variable_value_of(
     heap: &Heap,
     name: &str,
     value: Value,
-) -> Result<EnvValue, Refusal> {
+) -> Result<EnvValue, Refusal>
+    ensures ok { IfOk result (λ x. spec.variable_given heap.now state.now.objects name.now value ≡ Ok x) }
+    ensures fault { IfErr result (λ e. e ≢ Refusal.Memory →
+        spec.variable_given heap.now state.now.objects name.now value ≡ Err e) }
+{
     if !is_identifier(name) {
         return Err(bad_argument(state.alloc, name));
     }

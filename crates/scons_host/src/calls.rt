@@ -1,7 +1,11 @@
 //! Calls of objects: names of SCons, methods of environments and builders.
-ghost use Rattle.std.specs.Prelude.{◌≡◌, ◌≢◌, Ok, Err, IfErr, OnOk};
+ghost use Rattle.std.specs.Prelude.{◌≡◌, ◌≢◌, Ok, Err, IfOk, IfErr, OnOk};
+ghost use Rattle.py_host.specs.Calls.{arguments_of, given_of};
 ghost use Rattle.py_host.specs.Extends.{Extends};
+ghost use Rattle.scons_host.specs.Answers as answers;
+ghost use Rattle.scons_host.specs.Called as spec;
 ghost use Rattle.scons_host.specs.Causes.{HasLookCause};
+ghost use Rattle.scons_host.specs.Refusals as told;
 ghost use Rattle.scons_host.specs.Sharing as sharing;
 ghost use Rattle.scons_host.specs.SoFar.{so_far};
 ghost use Rattle.world_api.specs.Looks.{LooksAtFiles};
@@ -53,7 +57,12 @@ fn requested(
     heap: &Heap,
     object: HostId,
     args: &Args,
-) -> Result<(EnvId, Request), Refusal> {
+) -> Result<(EnvId, Request), Refusal>
+    ensures ok { let given = arguments_of args.now in
+        IfOk result (λ a. spec.asks (so_far state.now) heap.now object.0 given ≡ Ok (a.0.0, a.1)) }
+    ensures fault { let given = arguments_of args.now in
+        IfErr result (λ e. e ≢ Refusal.Memory → spec.asks (so_far state.now) heap.now object.0 given ≡ Err e) }
+{
     let default = state.declared.default_env();
     match state.objects.thing(object) {
         Some(Thing::Name(name)) => named(state, heap, default, *name, args),
@@ -74,7 +83,9 @@ fn requested(
     }
 }
 
-fn not_called(state: &State, heap: &Heap, object: HostId) -> Refusal {
+fn not_called(state: &State, heap: &Heap, object: HostId) -> Refusal
+    ensures { result ≢ Refusal.Memory → result ≡ told.bad_argument (told.shown_as heap.now object.0) }
+{
     bad_argument(state.alloc, heap.shown_of(object).unwrap_or("env"))
 }
 
@@ -85,17 +96,40 @@ fn named(
     env: EnvId,
     name: NameId,
     args: &Args,
-) -> Result<(EnvId, Request), Refusal> {
-    let text = name.text();
-    let asked = if state.declared.builder_of(env, text).is_some() {
-        own_request_of(heap, &state.objects, &Text::of(state.alloc, text)?, args)
-    } else {
-        request_of(heap, &state.objects, name.name(), args)
-    };
-    Ok((env, taken(state, text, asked)?))
+) -> Result<(EnvId, Request), Refusal>
+    ensures ok { let given = arguments_of args.now in
+        IfOk result (λ a. spec.named (so_far state.now) heap.now env.0 name.0 given ≡ Ok (a.0.0, a.1)) }
+    ensures fault { let given = arguments_of args.now in
+        IfErr result (λ e. e ≢ Refusal.Memory → spec.named (so_far state.now) heap.now env.0 name.0 given ≡ Err e) }
+{
+    let is_own = state.declared.builder_of(env, name.text()).is_some();
+    let asked = asked_of(state, heap, name, is_own, args);
+    Ok((env, taken(state, name.text(), asked)?))
 }
 
-fn taken(state: &State, name: &str, asked: Result<Request, CallFault>) -> Result<Request, Refusal> {
+fn asked_of(
+    state: &State,
+    heap: &Heap,
+    name: NameId,
+    is_own: bool,
+    args: &Args,
+) -> Result<Request, CallFault>
+    ensures ok { let given = arguments_of args.now in
+        IfOk result (λ r. spec.named_if (so_far state.now) heap.now name.0 given is_own ≡ Ok r) }
+    ensures fault { let given = arguments_of args.now in
+        IfErr result (λ e. e ≢ CallFault.Memory → spec.named_if (so_far state.now) heap.now name.0 given is_own ≡ Err e) }
+{
+    if !is_own {
+        return request_of(heap, &state.objects, name.name(), args);
+    }
+    let own = Text::of(state.alloc, name.text())?;
+    own_request_of(heap, &state.objects, &own, args)
+}
+
+fn taken(state: &State, name: &str, asked: Result<Request, CallFault>) -> Result<Request, Refusal>
+    ensures ok { IfOk result (λ r. spec.taken name.now asked ≡ Ok r) }
+    ensures fault { IfErr result (λ e. e ≢ Refusal.Memory → spec.taken name.now asked ≡ Err e) }
+{
     match asked {
         Ok(request) => Ok(request),
         Err(fault) => Err(refused(state.alloc, name, fault)),
@@ -133,7 +167,12 @@ fn shared(
     caller: Caller<'_>,
     asked: Shared,
 ) -> Result<Reply, Refusal>
-    ensures { Extends heap.old heap.new }
+    ensures stands { Extends heap.old heap.new }
+    ensures ok { IfOk result (λ r.
+        spec.shares (so_far state.old) heap.old caller.entry.locals.now caller.entry.globals.now asked
+        ≡ Ok (given_of r, so_far state.new, heap.new)) }
+    ensures fault { IfErr result (λ e. e ≢ Refusal.Memory →
+        spec.shares (so_far state.old) heap.old caller.entry.locals.now caller.entry.globals.now asked ≡ Err e) }
 {
     match asked {
         Shared::Export(exports) => {
@@ -157,7 +196,11 @@ fn value_of(
     env: EnvId,
     asked: Valued,
 ) -> Result<Value, Refusal>
-    ensures { Extends heap.old heap.new }
+    ensures stands { Extends heap.old heap.new }
+    ensures ok { IfOk result (λ v.
+        answers.gives (so_far state.old) heap.old place env.0 asked ≡ Ok (v, so_far state.new, heap.new)) }
+    ensures fault { IfErr result (λ e. e ≢ Refusal.Memory →
+        answers.gives (so_far state.old) heap.old place env.0 asked ≡ Err e) }
 {
     match asked {
         Valued::Declare(call) => declared(state, heap, place, env, call),

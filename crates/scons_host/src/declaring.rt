@@ -1,6 +1,7 @@
 //! Declarations on the plain state of the reading, and the values of their answers.
 ghost use Rattle.std.specs.Prelude.{◌≡◌, ◌≢◌, Ok, Err, IfOk, IfErr, OnOk};
 ghost use Rattle.py_host.specs.Extends.{Extends};
+ghost use Rattle.scons_host.specs.Answers as answers;
 ghost use Rattle.scons_host.specs.Asked as spec;
 ghost use Rattle.scons_host.specs.Lookups.{get};
 ghost use Rattle.scons_host.specs.SoFar.{so_far};
@@ -25,7 +26,11 @@ pub fn declared(
     env: EnvId,
     call: Call,
 ) -> Result<Value, Refusal>
-    ensures { Extends heap.old heap.new }
+    ensures stands { Extends heap.old heap.new }
+    ensures ok { IfOk result (λ v.
+        answers.declares (so_far state.old) heap.old place env.0 call ≡ Ok (v, so_far state.new, heap.new)) }
+    ensures fault { IfErr result (λ e. e ≢ Refusal.Memory →
+        answers.declares (so_far state.old) heap.old place env.0 call ≡ Err e) }
 {
     let single = is_single(&call);
     let answer = answer(state, place, env, call)?;

@@ -1,5 +1,5 @@
 //! The names of scripts: what is exported, imported and returned.
-ghost use Rattle.std.specs.Prelude.{◌≡◌, ◌≢◌, Ok, Err, IfOk, IfErr, OnOk, option_copied};
+ghost use Rattle.std.specs.Prelude.{◌≡◌, ◌≢◌, Ok, Err, IfOk, IfErr, OnOk, map, option_copied};
 ghost use Rattle.std.specs.Option.{option_map};
 ghost use Rattle.py_host.specs.Extends.{Extends};
 ghost use Rattle.py_host.specs.Names.{value_of};
@@ -164,7 +164,11 @@ pub fn return_names(
     locals: &Scope,
     globals: &Scope,
 ) -> Result<(), Refusal>
-    ensures { Extends heap.old heap.new }
+    ensures stands { Extends heap.old heap.new }
+    ensures ok { OnOk result (spec.return (so_far state.old) heap.old locals.now globals.now names.now
+        ≡ Ok (so_far state.new, heap.new)) }
+    ensures fault { IfErr result (λ e. e ≢ Refusal.Memory →
+        spec.return (so_far state.old) heap.old locals.now globals.now names.now ≡ Err e) }
 {
     let values = values_of(state.alloc, names.as_slice(), locals, globals)?;
     let returned = one_or_tuple(heap, values.as_slice())?;
@@ -203,8 +207,17 @@ pub fn one_or_tuple(heap: &mut Heap, values: &[Value]) -> Result<Value, Refusal>
     }
 }
 
-fn keep(state: &mut State, returned: Value) {
-    if let Some(call) = state.open.last_mut() {
-        call.returned = returned;
+fn keep(state: &mut State, returned: Value)
+    ensures { so_far state.new ≡ spec.keep (so_far state.old) returned }
+{
+    set_returned(state.open.as_mut_slice(), returned);
+}
+
+fn set_returned(calls: &mut [OpenCall], returned: Value)
+    ensures { map waiting_of calls.new ≡ spec.with_returned (map waiting_of calls.old) returned }
+{
+    let count = calls.len();
+    if count > 0 {
+        calls[count - 1].returned = returned;
     }
 }
