@@ -1,6 +1,10 @@
 pub mod Asked
+pub mod Called
+pub mod Callers
 pub mod Causes
 pub mod Files
+pub mod Forms
+pub mod Globbing
 pub mod Kinds
 pub mod Laws
 pub mod Looking
@@ -9,10 +13,13 @@ pub mod Plain
 pub mod Prints
 pub mod Reading
 pub mod Refusals
-pub mod Says
 pub mod Saying
+pub mod Says
+pub mod Scripts
 pub mod Seeing
 pub mod Sharing
+pub mod Shown
 pub mod SoFar
+pub mod Told
 pub mod Turns
 pub mod Untold
