@@ -164,7 +164,11 @@ pub fn return_names(
     locals: &Scope,
     globals: &Scope,
 ) -> Result<(), Refusal>
-    ensures { Extends heap.old heap.new }
+    ensures stands { Extends heap.old heap.new }
+    ensures ok { OnOk result (spec.return (so_far state.old) heap.old locals.now globals.now names.now
+        ≡ Ok (so_far state.new, heap.new)) }
+    ensures fault { IfErr result (λ e. e ≢ Refusal.Memory →
+        spec.return (so_far state.old) heap.old locals.now globals.now names.now ≡ Err e) }
 {
     let values = values_of(state.alloc, names.as_slice(), locals, globals)?;
     let returned = one_or_tuple(heap, values.as_slice())?;
@@ -203,7 +207,9 @@ pub fn one_or_tuple(heap: &mut Heap, values: &[Value]) -> Result<Value, Refusal>
     }
 }
 
-fn keep(state: &mut State, returned: Value) {
+fn keep(state: &mut State, returned: Value)
+    ensures { so_far state.new ≡ spec.keep (so_far state.old) returned }
+{
     if let Some(call) = state.open.last_mut() {
         call.returned = returned;
     }

@@ -1,7 +1,14 @@
 //! Scripts: the calls of SConscript, and the first scripts.
-ghost use Rattle.std.specs.Prelude.{IfErr};
+ghost use Rattle.std.specs.Prelude.{◌≡◌, ◌≢◌, Ok, Err, None, IfOk, IfErr, OnOk};
+ghost use Rattle.py_host.specs.Calls.{given_of, tree_of};
 ghost use Rattle.py_host.specs.Extends.{Extends};
+ghost use Rattle.py_tree.specs.Tree.{script_tree};
 ghost use Rattle.scons_host.specs.Causes.{HasLookCause, IsInside};
+ghost use Rattle.scons_host.specs.Forms.{Forms};
+ghost use Rattle.scons_host.specs.Refusals as told;
+ghost use Rattle.scons_host.specs.Scripts as spec;
+ghost use Rattle.scons_host.specs.Shown.{IsStop, Shown};
+ghost use Rattle.scons_host.specs.SoFar.{so_far};
 ghost use Rattle.world_api.specs.Looks.{LooksAtFiles};
 
 use crate::asks::bytes_of;
@@ -200,19 +207,59 @@ fn opened<W: World>(
 ) -> Result<Option<Script>, Stop>
     ensures looks { LooksAtFiles W.meaning world.old world.new }
     ensures cause { HasLookCause (W.meaning.counts world.old) (W.meaning.counts world.new) result }
+    ensures shown { Shown W.meaning world.old world.new (λ script. (tree_of script, so_far state.new)) result
+        (λ g f. spec.first_of_all g f (so_far state.old) place.now.dir place.now.candidates) }
 {
     for path in place.candidates.as_slice() {
-        if let Some(bytes) = read(world, path)? {
-            let script = script_of(state.alloc, path, &bytes)?;
-            begin(state, path, &place.dir)?;
+        if let Some(script) = candidate(state, world, path, &place.dir)? {
             return Ok(Some(script));
         }
     }
     Ok(None)
 }
 
+/// Reads and begins a script of a path, if it stands.
+#[tactic(auto, using(crate::specs::Looking::looking))]
+fn candidate<W: World>(
+    state: &mut State,
+    world: &mut W,
+    path: &PathText,
+    dir: &PathText,
+) -> Result<Option<Script>, Stop>
+    ensures looks { LooksAtFiles W.meaning world.old world.new }
+    ensures cause { HasLookCause (W.meaning.counts world.old) (W.meaning.counts world.new) result }
+    ensures stays { result ≡ Ok None → so_far state.new ≡ so_far state.old }
+    ensures shown { Shown W.meaning world.old world.new (λ script. (tree_of script, so_far state.new)) result
+        (λ g f. spec.candidate g f (so_far state.old) path.now dir.now) }
+{
+    match read(world, path)? {
+        Some(bytes) => Ok(Some(begun_with(state, path, dir, &bytes)?)),
+        None => Ok(None),
+    }
+}
+
+/// Begins a script of which these are the bytes.
+fn begun_with(
+    state: &mut State,
+    path: &PathText,
+    dir: &PathText,
+    bytes: &Blob,
+) -> Result<Script, Stop>
+    ensures inside { IfErr result IsInside }
+    ensures ok { IfOk result (λ s. (g : Forms) → spec.begin_with g (so_far state.old) path.now dir.now bytes.now
+        ≡ Ok (script_tree s, so_far state.new)) }
+    ensures fault { IfErr result (λ e. (g : Forms) → IsStop e (spec.begin_with g (so_far state.old) path.now dir.now bytes.now)) }
+{
+    let script = script_of(state.alloc, path, bytes)?;
+    begin(state, path, dir)?;
+    Ok(script)
+}
+
 /// Notes that a script begins.
-fn begin(state: &mut State, path: &PathText, dir: &PathText) -> Result<(), Refusal> {
+fn begin(state: &mut State, path: &PathText, dir: &PathText) -> Result<(), Refusal>
+    ensures ok { OnOk result (spec.begin (so_far state.old) path.now dir.now ≡ Ok (so_far state.new)) }
+    ensures fault { IfErr result (λ e. e ≢ Refusal.Memory → spec.begin (so_far state.old) path.now dir.now ≡ Err e) }
+{
     state.declared.begin_script(dir)?;
     state.scripts.push(path.copy()?)?;
     Ok(())
@@ -223,6 +270,7 @@ fn begin(state: &mut State, path: &PathText, dir: &PathText) -> Result<(), Refus
 fn read<W: World>(world: &mut W, path: &PathText) -> Result<Option<Blob>, Stop>
     ensures looks { LooksAtFiles W.meaning world.old world.new }
     ensures cause { HasLookCause (W.meaning.counts world.old) (W.meaning.counts world.new) result }
+    ensures shown { Shown W.meaning world.old world.new (λ bytes. bytes) result (λ g f. spec.bytes_at f path.now) }
 {
     match bytes_of(world, path, SCRIPT_LIMIT) {
         Ok(content) => Ok(content),
@@ -234,7 +282,9 @@ fn read<W: World>(world: &mut W, path: &PathText) -> Result<Option<Blob>, Stop>
 
 /// The script that bytes are.
 fn script_of(alloc: Global, path: &PathText, bytes: &Blob) -> Result<Script, Stop>
-    ensures { IfErr result IsInside }
+    ensures inside { IfErr result IsInside }
+    ensures ok { IfOk result (λ s. (g : Forms) → spec.tree_by path.now (g.form bytes.now) ≡ Ok (script_tree s)) }
+    ensures fault { IfErr result (λ e. (g : Forms) → IsStop e (spec.tree_by path.now (g.form bytes.now))) }
 {
     let tokens = match lex(alloc, bytes.as_slice()) {
         Ok(tokens) => tokens,
