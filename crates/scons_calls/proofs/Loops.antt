@@ -1,7 +1,7 @@
 -- Steps of a loop over a list, of which some is left.
-use Rattle.std.proofs.Common.{arith, true, false, Bor, map, ◌≡◌, ◌∙◌, ◌≤◌, ◌<◌, ◌+◌, ℕ, suc, List, [], ◌∷◌, ◌++◌, Option, Some, None, Result, Ok, Err, refl, ap, sym, drop, get_or, length, add-one, drop-cons, inl, inr}
+use Rattle.std.proofs.Common.{arith, true, false, Bool, ◌&&◌, Bor, map, ◌≡◌, ◌∙◌, ◌≤◌, ◌<◌, ◌+◌, ℕ, suc, List, [], ◌∷◌, ◌++◌, Option, Some, None, Result, Ok, Err, refl, ap, sym, drop, get_or, length, add-one, drop-cons, inl, inr}
 use Rattle.std.specs.Prelude.{slice_get, fold}
-use Rattle.std.specs.List.{enumerate_from}
+use Rattle.std.specs.List.{enumerate_from, list_all}
 use Rattle.std.proofs.lemmas.List.{drop_all, length-map}
 use Rattle.std.proofs.lemmas.List.FromFn.{length-enumerate_from, get_or-enumerate_from}
 use Rattle.std.proofs.lemmas.Option.{slice_get-map, slice_get_within, get_or_from_slice_get, slice_get_cases, slice_get_read, slice_get-get_or}
@@ -18,7 +18,7 @@ use Rattle.scons_calls.specs.Signatures.{Parameter, parameter_of}
 use Rattle.py_host.specs.Calls.{Arguments}
 use Rattle.scons_calls.specs.declared.fault.CallFault.{CallFault}
 use Rattle.scons_calls.specs.declared.fault.CallFault.TheVariants as fault
-use Rattle.scons_calls.specs.Binding.{is_given, stands, stands_if}
+use Rattle.scons_calls.specs.Binding.{is_given, stands_if}
 use Rattle.scons_calls.specs.Kinds.{pairs_in}
 use Rattle.scons_calls.specs.Results.{along, and_one, and_then}
 
@@ -146,7 +146,18 @@ placed_stop f rows i s x e r l is made left = along_stop f (listed rows) i s (i,
 pub placed_end : {S E : Type 0} (f : S → ℕ × Parameter → Result S E) (rows : Rows) (i : ℕ) (s : S) (r : Result S E) → length rows ≤ i → along f s (drop i (listed rows)) ≡ r → r ≡ Ok s
 placed_end f rows i s r past left = along_end f (listed rows) i s r (omega (arith, length-enumerate_from 0 (map parameter_of rows), length-map rows parameter_of)) left
 
--- parameters that have to be given
+-- parameters that have to be given, one after another
+abbrev pub stands : Arguments → ℕ × Parameter → Result (Unit {0}) CallFault
+stands args p = stands_if (is_given args p)
+
+both_stand : (b rest : Bool) (more : Unit {0} → Result (Unit {0}) CallFault) → more tt ≡ stands_if rest → and_then (stands_if b) more ≡ stands_if (b && rest)
+both_stand true rest more e = e
+both_stand false rest more e = refl
+
+pub all_stand : (args : Arguments) (parameters : List (ℕ × Parameter)) → along (λ u p. stands args p) tt parameters ≡ stands_if (list_all (is_given args) parameters)
+all_stand args [] = refl
+all_stand args (p ∷ parameters) = both_stand (is_given args p) (list_all (is_given args) parameters) (λ u. along (λ u p. stands args p) u parameters) (all_stand args parameters)
+
 pub given_more : (args : Arguments) (rows : Rows) (i : ℕ) (x : Bor (List ℕ) × Kind × Takes) (r : Result (Unit {0}) CallFault) → i < length rows → x ≡ get_or rows i x → is_given args (i, parameter_of x) ≡ true → along (λ u p. stands args p) tt (drop i (listed rows)) ≡ r → along (λ u p. stands args p) tt (drop (i + 1) (listed rows)) ≡ r
 given_more args rows i x r l is given left = placed_more (λ u p. stands args p) rows i tt tt x r l is (ap stands_if given) left
 

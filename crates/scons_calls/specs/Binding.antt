@@ -5,7 +5,7 @@
 -- numbers; then the kinds, in the order of the signature.
 use Rattle.std.specs.Prelude.{ℕ, Bool, true, false, not, ◌&&◌, ◌||◌, ◌-◌, nat_lt, pos, List, [], ◌∷◌, Option, Some, None, Result, Ok, Err, is_some, length, drop, position, slice_get, if◌then◌else◌}
 use Rattle.std.specs.Option.{option_or, option_map_or}
-use Rattle.std.specs.List.{list_any, enumerate_from}
+use Rattle.std.specs.List.{list_all, list_any, enumerate_from}
 use Rattle.std.specs.Ordering.{int_eq}
 use Rattle.std.specs.Str.{bytes_eq}
 use Rattle.py_heap.specs.declared.value.Value.{Value}
@@ -78,12 +78,9 @@ stands_if false = Err fault.Arguments
 abbrev pub is_given : Arguments → ℕ × Parameter → Bool
 is_given args p = not (is_needed p.1.takes) || is_some (value_at args p.0 p.1)
 
-abbrev pub stands : Arguments → ℕ × Parameter → Result (Unit {0}) CallFault
-stands args p = stands_if (is_given args p)
-
 -- none that must stand is missing
 abbrev pub needed_stand : List Parameter → Arguments → Result (Unit {0}) CallFault
-needed_stand parameters args = along (λ u p. stands args p) tt (enumerate_from 0 parameters)
+needed_stand parameters args = stands_if (list_all (is_given args) (enumerate_from 0 parameters))
 
 -- the last parameter takes all that stand from its place on
 abbrev pub last_takes_all : List Parameter → Bool
