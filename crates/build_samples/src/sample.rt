@@ -1,10 +1,12 @@
 //! The build of the copy, over a world in memory.
 ghost use Rattle.std.specs.Prelude.{◌≡◌, ◌∷◌, [], codes, IfSome};
+ghost use Rattle.build_samples.specs.Copies.{copy_graph, target_node};
 ghost use Rattle.build_samples.specs.Samples.{HasBuilt, IsOutsetOf};
 
 use crate::declared::declare_copy;
 use build_run::{BuildEnd, Options, build};
-use scons_base::{Blob, PathText};
+use rule_graph::Graph;
+use scons_base::{Blob, NodeId, PathText};
 use sign_store::Store;
 use std::alloc::Global;
 use world_api::Hash;
@@ -24,10 +26,29 @@ pub struct Sample {
 pub fn build_copy(alloc: Global, content: &[u8]) -> Option<Sample>
     ensures { IfSome result (HasBuilt content.now) }
 {
-    let (mut graph, target) = declare_copy(alloc)?;
-    let (mut world, mut store) = outset(alloc, content)?;
-    let mut out = MemSink::new(alloc, Vec::new(alloc)).ok()?;
-    let mut err = MemSink::new(alloc, Vec::new(alloc)).ok()?;
+    let (graph, target) = declare_copy(alloc)?;
+    let (world, store) = outset(alloc, content)?;
+    let (out, err) = sinks(alloc)?;
+    Some(built(alloc, content, graph, target, (world, store), (out, err)))
+}
+
+/// Builds the target of a graph from what a build begins with. What it begins with is told by the content of `s`.
+fn built(
+    alloc: Global,
+    content: &[u8],
+    graph: Graph,
+    target: NodeId,
+    begun: (MemWorld, Store),
+    sinks: (MemSink, MemSink),
+) -> Sample
+    requires graph { graph ≡ copy_graph }
+    requires target { target ≡ target_node }
+    requires outset { IsOutsetOf content.now begun.0 begun.1 }
+    ensures { HasBuilt content.now result }
+{
+    let mut graph = graph;
+    let (mut world, mut store) = begun;
+    let (mut out, mut err) = sinks;
     let options = Options {
         jobs: 1,
         keep: false,
@@ -45,13 +66,20 @@ pub fn build_copy(alloc: Global, content: &[u8]) -> Option<Sample>
         &mut err,
         &options,
     );
-    Some(Sample {
+    Sample {
         end,
         out,
         err,
         store,
         world,
-    })
+    }
+}
+
+/// Two sinks that take all.
+fn sinks(alloc: Global) -> Option<(MemSink, MemSink)> {
+    let out = MemSink::new(alloc, Vec::new(alloc)).ok()?;
+    let err = MemSink::new(alloc, Vec::new(alloc)).ok()?;
+    Some((out, err))
 }
 
 /// What the build begins with: a world in which `s` is the only file and no call fails, and its store.

@@ -13,7 +13,7 @@ use Rattle.build_run.specs.Outsets.{wanted_of, BuildRuns, BuildSucceeds}
 use Rattle.world_mem.specs.Means.{world_meaning}
 use Rattle.build_samples.specs.Copies.{copy_graph, target_node}
 use Rattle.build_samples.specs.Samples.{options, wanted}
-use Rattle.build_samples.proofs.sample.build_copy.Goals as goal
+use Rattle.build_samples.proofs.sample.built.Goals as goal
 
 asked : (g : RuleGraph) (node : NodeId) → g ≡ copy_graph → node ≡ target_node → wanted_of g (node ∷ []) options ≡ wanted
 asked g node graph target =
@@ -27,20 +27,21 @@ none_recorded map path rec empty e =
 
 pub build-end-requires : goal.build-end-requires
 build-end-requires c =
-    let outset = c.in_ok-world.ensures in
+    let outset = c.requires.outset in
     record { unclosed = refl; idle = λ told. outset.idle; live = outset.live; kept = outset.kept }
 
 pub returns : goal.returns
 returns c =
-    let old = c.in_ok-world.world in
-    let map = map_of c.in_ok-world.store in
+    let old = c.args.begun.0 in
+    let store = c.args.begun.1 in
+    let map = map_of store in
     let new = c.build-end.new.world in
     let behind = map_of c.build-end.new.store in
-    let asks = asked c.in_ok-graph.graph c.in_ok-graph.target c.in_ok-graph.ensures.0 c.in_ok-graph.ensures.1 in
+    let asks = asked c.args.graph c.args.target c.requires.graph c.requires.target in
     record {
       old = old;
-      store = c.in_ok-world.store;
-      outset = c.in_ok-world.ensures;
+      store = store;
+      outset = c.requires.outset;
       runs = subst (λ (w : Wanted). BuildRuns world_meaning w map old new behind c.build-end.result) asks c.build-end.ensures.runs tt tt refl;
       succeeds = λ none enough.
           subst (λ (w : Wanted). BuildSucceeds world_meaning w map old new behind c.build-end.result) asks c.build-end.ensures.succeeds none enough
@@ -48,7 +49,7 @@ returns c =
       safe = subst (λ (w : Wanted). BuildsSafely world_meaning w old new) asks c.build-end.ensures.safe (setting_in wanted (around_of old.state))
           (λ told sure. record { acts = refl; digests = refl })
           (λ told sure banks image left is_left.
-          let empty = (c.in_ok-world.ensures.kept.each told banks image).image ∙ c.in_ok-world.ensures.empty in
+          let empty = (c.requires.outset.kept.each told banks image).image ∙ c.requires.outset.empty in
           record {
             at_targets = λ path rec e. none_recorded (image_in banks) path rec empty e;
             true_of_files = λ path rec bytes e file. none_recorded (image_in banks) path rec empty e;
