@@ -1,8 +1,11 @@
 pub mod Answers
 pub mod Asked
+pub mod Broken
 pub mod Called
+pub mod Calling
 pub mod Causes
 pub mod Files
+pub mod Forms
 pub mod Kinds
 pub mod Laws
 pub mod Looking
@@ -10,9 +13,11 @@ pub mod Lookups
 pub mod Plain
 pub mod Prints
 pub mod Reading
+pub mod ReadingRules
 pub mod Refusals
-pub mod Says
 pub mod Saying
+pub mod Says
+pub mod Scripts
 pub mod Seeing
 pub mod Sharing
 pub mod SoFar
