@@ -3,6 +3,7 @@ pub mod Asked
 pub mod Called
 pub mod Causes
 pub mod Files
+pub mod Globbing
 pub mod Kinds
 pub mod Laws
 pub mod Looking
@@ -11,10 +12,12 @@ pub mod Plain
 pub mod Prints
 pub mod Reading
 pub mod Refusals
-pub mod Says
 pub mod Saying
+pub mod Says
 pub mod Seeing
 pub mod Sharing
+pub mod Shown
 pub mod SoFar
+pub mod Told
 pub mod Turns
 pub mod Untold
