@@ -2,6 +2,9 @@ mod Exits
 pub mod Keeping
 pub mod Lasts
 pub mod Meant
+pub mod Ordered
 pub mod Plain
+pub mod Refusing
 pub mod Saying
+pub mod Showing
 pub mod Stopping

@@ -6,6 +6,7 @@ pub mod Calling
 pub mod Causes
 pub mod Files
 pub mod Forms
+pub mod Globbing
 pub mod Kinds
 pub mod Laws
 pub mod Looking
@@ -20,6 +21,8 @@ pub mod Says
 pub mod Scripts
 pub mod Seeing
 pub mod Sharing
+pub mod Shown
 pub mod SoFar
+pub mod Told
 pub mod Turns
 pub mod Untold
