@@ -1,4 +1,5 @@
 mod Exits
+pub mod Forms
 pub mod Keeping
 pub mod Lasts
 pub mod Meant
@@ -6,5 +7,6 @@ pub mod Ordered
 pub mod Plain
 pub mod Refusing
 pub mod Saying
+pub mod Scripting
 pub mod Showing
 pub mod Stopping

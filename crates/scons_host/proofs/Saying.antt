@@ -43,6 +43,7 @@ steady a b f asks quiet shows =
         once = (shows.listed dir).once;
       };
       top = shows.top ∙ sym asks.top;
+      forms = shows.forms;
     }
 
 abbrev plain_by : {S : Type 0} → S → List ℕ → Kept → Plain S HostEnd

@@ -30,7 +30,7 @@ nowhere = record { script = 0; line = 0 }
 
 -- the place of the call that reads the script that runs
 abbrev pub place_in : Option Waiting → Place
-place_in (Some call) = call.place
+place_in (Some waiting) = waiting.place
 place_in None = nowhere
 
 abbrev pub turn : Files → (q : Question) → SoFar → Objects → Turn SoFar HostEnd (Answer q)

@@ -1,5 +1,5 @@
 -- Scripts that read scripts: scons(1) under SConscript, and the first scripts, which the words of the command line name.
-use Rattle.std.specs.Prelude.{ℕ, ◌-◌, ◌==◌, Bool, true, false, not, ◌&&◌, List, [], ◌∷◌, ◌++◌, Option, Some, None, Result, Ok, Err, codes, length, take, is_some, slice_get, unwrap_or, if◌then◌else◌}
+use Rattle.std.specs.Prelude.{ℕ, ◌-◌, ◌==◌, Bool, true, false, not, ◌&&◌, List, [], ◌∷◌, ◌++◌, Option, Some, None, Result, Ok, Err, codes, length, drop, take, is_some, slice_get, unwrap_or, if◌then◌else◌}
 use Rattle.std.specs.Option.{option_or}
 use Rattle.std.specs.List.{find}
 use Rattle.std.specs.Str.{bytes_eq}
@@ -114,16 +114,9 @@ opened place locals globals env asked =
       returned = v.Nil;
     }))
 
-abbrev with_files : Waiting → List Node → Waiting
-with_files call files = record call { files = files }
-
-abbrev first_of : Waiting → List Node → Option Node × Waiting
-first_of call [] = (None, call)
-first_of call (file ∷ files) = (Some file, with_files call files)
-
 -- the next script of a call, and the call without it
 abbrev pub next_file : Waiting → Option Node × Waiting
-next_file call = first_of call call.files
+next_file call = (slice_get call.files 0, record call { files = drop 1 call.files })
 
 abbrev answer_by : Bool → Objects → List Value → Result (Value × Objects) Refusal
 answer_by true h answers = told_by of_value (given_tuple h answers)
@@ -180,13 +173,9 @@ first_by f s path None = Err (stop.There path 0 (read.NoScript path))
 abbrev pub first : Files → SoFar → List ℕ → Result (Tree × SoFar) Stop
 first f s path = and_then (bytes_at f path) (first_by f s path)
 
-abbrev path_of : SoFar → List (List ℕ) → Option (List ℕ) × SoFar
-path_of s [] = (None, s)
-path_of s (path ∷ paths) = (Some path, record s { first = paths })
-
 -- the next first script, and what was read so far without it
 abbrev pub next_path : SoFar → Option (List ℕ) × SoFar
-next_path s = path_of s s.first
+next_path s = (slice_get s.first 0, record s { first = drop 1 s.first })
 
 abbrev pub next_by : Files → Option (List ℕ) × SoFar → Result (Option Tree × SoFar) Stop
 next_by f (Some path, s) = and_then (first f (left s) path) (λ m. Ok (Some m.0, m.1))

@@ -219,11 +219,7 @@ fn found(state: &mut State, call: &OpenCall, file: &Given) -> Result<ScriptPlace
 }
 
 /// Begins the script that was found, if it stands.
-fn begins_at(
-    state: &mut State,
-    place: &ScriptPlace,
-    source: Option<Source>,
-) -> Result<Script, Stop>
+fn begins_at(state: &mut State, place: &ScriptPlace, source: Option<Source>) -> Result<Script, Stop>
     ensures inside { IfErr result IsInside }
     ensures ok { (f : Files) → TellsForms f.form → IfOk result (λ script.
         spec.begins_at f (so_far state.old) place.now source ≡ Ok (script_tree script, so_far state.new)) }
