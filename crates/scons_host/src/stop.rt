@@ -38,12 +38,14 @@ impl Stop {
     ghost use Rattle.world_api.specs.Causes.{TreeFails};
     ghost use Rattle.world_api.specs.Counts.{Counts};
     ghost use Rattle.scons_host.specs.Causes.{HasStopCause};
+    ghost use Rattle.scons_host.specs.Shown.{IsTold};
 
     /// The tree refused at this path.
     #[tactic(auto, using(crate::specs::Looking::looking))]
     pub fn tree(path: &PathText) -> Stop
         ensures cause { (old new : Counts) → TreeFails old new → HasStopCause old new result }
         ensures is { result ≢ Stop.Memory → result ≡ Stop.Tree path.now }
+        ensures untold { IsTold result → ⊥ }
     {
         match path.copy() {
             Ok(path) => Stop::Tree(path),
