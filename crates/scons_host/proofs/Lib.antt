@@ -4,6 +4,7 @@ pub mod Keeping
 pub mod Lasts
 pub mod Meant
 pub mod Ordered
+pub mod Globs
 pub mod Plain
 pub mod Refusing
 pub mod Saying

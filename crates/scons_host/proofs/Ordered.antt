@@ -1,5 +1,5 @@
 -- Paths in byte order: of lists with the same paths they are one list.
-use Rattle.std.proofs.Common.{◌≡◌, ◌∙◌, ℕ, List, [], ◌∷◌, ◌++◌, ◌||◌, Bool, true, false, cond, Option, Some, None, Result, Ok, Err, IfOk, IfErr, ◌≢◌, Contains, map, length, arith, refl, sym, ap, subst, inl, inr}
+use Rattle.std.proofs.Common.{◌≡◌, ◌∙◌, ℕ, List, [], ◌∷◌, ◌++◌, ◌||◌, Bool, true, false, cond, Option, Some, None, Result, Ok, Err, IfOk, IfErr, ◌≢◌, Contains, map, take, length, get_or, ◌+◌, ◌<◌, append-nil, arith, refl, sym, ap, subst, inl, inr}
 use Rattle.std.specs.Cmp.{IsTotalOrder}
 use Rattle.std.specs.Cmp.Lexicographic.{slice_cmp, nat_list_cmp_total}
 use Rattle.std.specs.FinMap.{keys, entries, from_entries, entries-insert, get-from_entries, len-entries, len-empty, same_map, find, put, nat_cmp-IsAntisymmetric, slice_cmp-IsAntisymmetric}
@@ -11,6 +11,8 @@ use Rattle.std.specs.Str.{bytes_eq}
 use Rattle.std.specs.declared.cmp.Ordering.{Ordering}
 use Rattle.std.specs.declared.cmp.Ordering.TheVariants.{Less, Equal, Greater}
 use Rattle.std.proofs.lemmas.Cmp.{eq_by_cmp_equiv}
+use Rattle.std.proofs.lemmas.Grind.{flat_map-append}
+use Rattle.std.proofs.lemmas.List.{take_more}
 use Rattle.std.proofs.lemmas.List.Elements.{Contains-append_left, Contains-append_right, Contains-append_cases}
 use Rattle.std.proofs.lemmas.List.Folds.{list_any-append, Any-from_list_any, list_any-from_Any}
 use Rattle.std.proofs.lemmas.List.Kept.{IsStrictlySortedBy-dedup}
@@ -177,3 +179,12 @@ among_same d env pattern xs ys same = by (search_of d env pattern)
         let meant = λ (files : Paths). meant_by d search (source_of d search.dir) files in
         ap (λ paths. let r : Nodes = Ok (map File paths) in r) (order_same (meant xs) (meant ys) (λ q. any_meant d search (source_of d search.dir) xs ys same (bytes_eq q)))
     by (Err e) = refl
+
+-- the paths of one directory more
+pub listed_more : (list : List ℕ → Paths) (files more all dirs : Paths) (i : ℕ) (dir : List ℕ) → i < length dirs → dir ≡ get_or dirs i dir → SamePaths files (flat_map list (take i dirs)) → SamePaths more (list dir) → all ≡ files ++ more → SamePaths all (flat_map list (take (i + 1) dirs))
+listed_more list files more all dirs i dir within at here there is =
+    let front = flat_map list (take i dirs) in
+    let e : flat_map list (take (i + 1) dirs) ≡ front ++ list dir =
+        ap (flat_map list) (take_more dirs i dir within) ∙ flat_map-append list (take i dirs) (get_or dirs i dir ∷ [])
+        ∙ ap (λ ys. front ++ ys) (append-nil (list (get_or dirs i dir))) ∙ ap (λ d. front ++ list d) (sym at) in
+    subst (λ xs. SamePaths xs (flat_map list (take (i + 1) dirs))) (sym is) (subst (SamePaths (files ++ more)) (sym e) (paths_behind files front more (list dir) here there))

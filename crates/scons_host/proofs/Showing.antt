@@ -13,7 +13,7 @@ use Rattle.world_api.specs.Looks.{LooksAtFiles}
 use Rattle.world_api.specs.Meaning.{Meaning}
 use Rattle.world_api.specs.Reads.{IsListing, IsOver, kind_of}
 use Rattle.scons_host.specs.Files.{Files, Shows}
-use Rattle.scons_host.specs.Shown.{Stands, Shown, SamePaths, IsKindOf, read_within, IsReadRefusal}
+use Rattle.scons_host.specs.Shown.{Stands, Shown, SamePaths, IsKindOf, read_within, IsRead}
 use Rattle.scons_host.proofs.Saying.{steady}
 
 module _ {W : Type 0} (m : Meaning W) where
@@ -68,19 +68,16 @@ module _ {W : Type 0} (m : Meaning W) (a b : W) (asks : m.tells b → Asks (m.ar
   kind_shown path (Ok found) is = λ f s. subst (λ content. IsKindOf content found) (sym ((after f s).tree path)) (kind_is (m.around b) path found (is s.tells))
   kind_shown path (Err e) is = λ f s. tt
 
-  pub bytes_shown : {E : Type 0} (path : List ℕ) (limit : ℕ) (r : Result (Option (List ℕ)) E) → (m.tells b → IfOk r (λ content. content ≡ (m.around b).tree path))
-      → IfOk r (λ content. IfSome content (λ bytes. length bytes ≤ limit)) → Shown m a b (λ f. IfOk r (λ content. read_within limit (f.tree path) ≡ Ok content))
-  bytes_shown path limit (Ok content) is within = λ f s. ap (read_within limit) ((after f s).tree path ∙ sym (is s.tells)) ∙ fits limit content within
-  bytes_shown path limit (Err e) is within = λ f s. tt
-
-  pub refusal_shown : {X : Type 0} (path : List ℕ) (limit : ℕ) (r : Result X ReadRefusal) → (m.tells b → IfErr r (IsOver ((m.around b).tree path)))
-      → IfErr r (λ refusal. (size : ℕ) → refusal ≡ read'.TooLarge size → limit < size) → Shown m a b (λ f. IfErr r (IsReadRefusal limit (f.tree path)))
-  refusal_shown path limit (Ok x) is over = λ f s. tt
-  refusal_shown path limit (Err (read'.TooLarge size)) is over = λ f s.
-      let found = is s.tells in
+  pub bytes_shown : (path : List ℕ) (limit : ℕ) (r : Result (Option (List ℕ)) ReadRefusal)
+      → (m.tells b → IfOk r (λ content. content ≡ (m.around b).tree path)) → IfOk r (λ content. IfSome content (λ bytes. length bytes ≤ limit))
+      → (m.tells b → IfErr r (IsOver ((m.around b).tree path))) → IfErr r (λ refusal. (size : ℕ) → refusal ≡ read'.TooLarge size → limit < size)
+      → Shown m a b (λ f. IsRead limit (f.tree path) r)
+  bytes_shown path limit (Ok content) is within large over = λ f s. ap (read_within limit) ((after f s).tree path ∙ sym (is s.tells)) ∙ fits limit content within
+  bytes_shown path limit (Err (read'.TooLarge size)) is within large over = λ f s.
+      let found = large s.tells in
       ap (read_within limit) ((after f s).tree path ∙ found.1) ∙ too_large limit found.0 size found.2 (over size refl)
-  refusal_shown path limit (Err read'.Fault) is over = λ f s. tt
-  refusal_shown path limit (Err read'.Memory) is over = λ f s. tt
+  bytes_shown path limit (Err read'.Fault) is within large over = λ f s. tt
+  bytes_shown path limit (Err read'.Memory) is within large over = λ f s. tt
 
   pub files_shown : {E : Type 0} (dir : List ℕ) (r : Result (List (List ℕ)) E) → (m.tells b → IfOk r (IsListing (m.around b) dir)) → Shown m a b (λ f. IfOk r (λ paths. SamePaths paths (f.listed dir)))
   files_shown dir (Ok paths) is = λ f s. listings_same (m.around b) dir paths (f.listed dir) (is s.tells) ((after f s).listed dir)

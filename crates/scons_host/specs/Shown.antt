@@ -34,11 +34,12 @@ abbrev pub read_within : ℕ → Option (List ℕ) → Result (Option (List ℕ)
 read_within limit None = Ok None
 read_within limit (Some bytes) = if nat_lt limit (length bytes) then Err (read'.TooLarge (length bytes)) else Ok (Some bytes)
 
--- a refusal for the size of the file is that of the read
-abbrev pub IsReadRefusal : ℕ → Option (List ℕ) → ReadRefusal → Type 0
-IsReadRefusal limit content (read'.TooLarge size) = read_within limit content ≡ Err (read'.TooLarge size)
-IsReadRefusal limit content read'.Fault = Unit {0}
-IsReadRefusal limit content read'.Memory = Unit {0}
+-- what is read, or that the file is too large; of the outside and of want of memory nothing is said
+abbrev pub IsRead : ℕ → Option (List ℕ) → Result (Option (List ℕ)) ReadRefusal → Type 0
+IsRead limit content (Ok read) = read_within limit content ≡ Ok read
+IsRead limit content (Err (read'.TooLarge size)) = read_within limit content ≡ Err (read'.TooLarge size)
+IsRead limit content (Err read'.Fault) = Unit {0}
+IsRead limit content (Err read'.Memory) = Unit {0}
 
 -- a stop of a script: none of the file tree or the sink, and no want of memory
 abbrev pub IsTold : Stop → Type 0

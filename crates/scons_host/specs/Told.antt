@@ -22,14 +22,25 @@ use Rattle.scons_host.specs.SoFar.{SoFar}
 abbrev pub is_of : List ℕ → List ℕ → Bool
 is_of fault called = bytes_eq fault called || (bytes_eq called (codes "Library") && bytes_eq fault (codes "StaticLibrary"))
 
+-- a method stands behind `env.`
 abbrev pub method : List ℕ → List ℕ
 method called = codes "env." ++ called
 
--- how an object is written that is called, where the name at fault is its own: a method's stands behind `env.`
+-- a name of SCons, a method and an environment's own builder as they are called, where the name at fault is theirs
+abbrev pub alone : List ℕ → List ℕ → List ℕ
+alone called word = if is_of word called then called else word
+
+abbrev pub method_of : List ℕ → List ℕ → List ℕ
+method_of called word = if is_of word called then method called else word
+
+abbrev pub own_method : List ℕ → List ℕ → List ℕ
+own_method own word = if bytes_eq own word then method own else word
+
+-- how an object is written that is called, where the name at fault is its own
 abbrev pub written : Option Thing → List ℕ → List ℕ
-written (Some (thing.Name n)) word = if is_of word (text_at n.0) then text_at n.0 else word
-written (Some (thing.Method env n)) word = if is_of word (text_at n.0) then method (text_at n.0) else word
-written (Some (thing.OwnMethod env own)) word = if bytes_eq own word then method own else word
+written (Some (thing.Name n)) word = alone (text_at n.0) word
+written (Some (thing.Method env n)) word = method_of (text_at n.0) word
+written (Some (thing.OwnMethod env own)) word = own_method own word
 written (Some (thing.Env env)) word = word
 written (Some (thing.Builders env)) word = word
 written (Some (thing.Builder number)) word = word
@@ -46,6 +57,25 @@ name_as_called called fault = fault
 abbrev pub as_called : Option Thing → ReadKind → ReadKind
 as_called called (read.Name fault) = read.Name (name_as_called called fault)
 as_called called kind = kind
+
+-- what takes memory to be told as it was called
+abbrev pub NamesCall : NameFault → Type 0
+NamesCall (name.BadArgument word) = Unit {0}
+NamesCall fault = ⊥
+
+abbrev pub TakesMemory : ReadKind → Type 0
+TakesMemory (read.Name fault) = NamesCall fault
+TakesMemory kind = ⊥
+
+-- want of memory itself, and what may lack it when it is told
+abbrev pub MayBeShort : Stop → Type 0
+MayBeShort stop.Memory = Unit {0}
+MayBeShort (stop.Here kind) = TakesMemory kind
+MayBeShort (stop.There path line kind) = ⊥
+MayBeShort (stop.Tree path) = ⊥
+MayBeShort stop.Out = ⊥
+MayBeShort (stop.TooLarge path size) = ⊥
+MayBeShort (stop.TooMany what count) = ⊥
 
 -- what an object stands for that is called, where one is
 abbrev pub called_thing : Things → Option HostId → Option Thing

@@ -1,7 +1,7 @@
 //! What the host asks of the world. It looks at files, and changes none.
-ghost use Rattle.std.specs.Prelude.{◌≡◌, ◌≢◌, Ok, Err, IfOk, IfErr, OnOk, OnErr};
+ghost use Rattle.std.specs.Prelude.{◌≡◌, ◌≢◌, Err, IfOk, OnOk, OnErr};
 ghost use Rattle.scons_host.specs.Causes.{TreeFailsOn};
-ghost use Rattle.scons_host.specs.Shown.{Shown, SamePaths, IsKindOf, IsReadRefusal, read_within};
+ghost use Rattle.scons_host.specs.Shown.{Shown, SamePaths, IsKindOf, IsRead};
 ghost use Rattle.world_api.specs.Looks.{LooksAtFiles};
 
 use scons_base::{PathText, Paths};
@@ -30,8 +30,7 @@ pub fn bytes_of<W: World>(
     path: &PathText,
     limit: u64,
 ) -> Result<Content, ReadRefusal>
-    ensures shown { Shown W.meaning world.old world.new (λ f. IfOk result (λ read. read_within limit (f.tree path.now) ≡ Ok read)) }
-    ensures large { Shown W.meaning world.old world.new (λ f. IfErr result (IsReadRefusal limit (f.tree path.now))) }
+    ensures shown { Shown W.meaning world.old world.new (λ f. IsRead limit (f.tree path.now) result) }
     ensures looks { LooksAtFiles W.meaning world.old world.new }
     ensures kept { result ≢ Err ReadRefusal.Fault → W.meaning.counts world.new ≡ W.meaning.counts world.old }
     ensures rose { result ≡ Err ReadRefusal.Fault → TreeFailsOn W.meaning world.old world.new }

@@ -69,12 +69,7 @@ fn matched(
 }
 
 /// The nodes that a pattern matches.
-fn nodes_among(
-    state: &State,
-    env: EnvId,
-    pattern: &Text,
-    files: &Paths,
-) -> Result<Nodes, NameFault>
+fn nodes_among(state: &State, env: EnvId, pattern: &Text, files: &Paths) -> Result<Nodes, NameFault>
     ensures ok { let declared = (so_far state.now).declared in
         IfOk result (λ nodes. spec.nodes_among declared env.0 pattern.now files.now ≡ Ok nodes) }
     ensures fault { let declared = (so_far state.now).declared in

@@ -1,5 +1,5 @@
 use Rattle.world_api.proofs.Looking.{read}
-use Rattle.scons_host.proofs.Showing.{bytes_shown, refusal_shown}
+use Rattle.scons_host.proofs.Showing.{bytes_shown}
 use Rattle.scons_host.proofs.asks.bytes_of.Goals as goal
 
 pub returns-clause-looks : goal.returns-clause-looks
@@ -10,9 +10,4 @@ returns-clause-looks g c =
 pub returns-clause-shown : goal.returns-clause-shown
 returns-clause-shown g c =
     let e = c.read_file.ensures in
-    bytes_shown g.W.Disk.meaning _ _ e.around c.args.path.now c.args.limit c.read_file.result e.content e.within
-
-pub returns-clause-large : goal.returns-clause-large
-returns-clause-large g c =
-    let e = c.read_file.ensures in
-    refusal_shown g.W.Disk.meaning _ _ e.around c.args.path.now c.args.limit c.read_file.result e.large e.over
+    bytes_shown g.W.Disk.meaning _ _ e.around c.args.path.now c.args.limit c.read_file.result e.content e.within e.large e.over
