@@ -11,3 +11,4 @@ pub mod Saying
 pub mod Scripting
 pub mod Showing
 pub mod Stopping
+pub mod Turning

@@ -17,6 +17,7 @@ pub mod Reading
 pub mod ReadingRules
 pub mod Refusals
 pub mod Saying
+pub mod SayingLaws
 pub mod Says
 pub mod Scripts
 pub mod Seeing
