@@ -1,24 +1,16 @@
--- The host of scripts keeps what every host keeps to.
+-- What an end tells of the outside, from what a stop tells, and what is printed.
 use Rattle.std.specs.Prelude.{◌≡◌, ◌≤◌, ℕ, List, [], ◌++◌, Option, Some, None, Result, Ok, Err, OnOk, OnErr}
 use Rattle.std.proofs.Common.{arith, refl, sym, ap, subst, ◌∙◌, append_assoc, append-nil}
-use Rattle.py_host.specs.Calls.{Answered, answers, refuses}
-use Rattle.py_host.specs.Meaning.{IsKept, IsDetermined}
-use Rattle.py_host.specs.Meaning.{Counts as Counted}
 use Rattle.scons_base.specs.Rising.{Rose}
 use Rattle.world_api.specs.Counts.{Counts}
-use Rattle.world_api.specs.Meaning.{Meaning}
 use Rattle.world_api.specs.declared.refusal.Fault.{Fault}
 use Rattle.world_api.specs.Printed.{SinkMeaning, taken}
 use Rattle.scons_host.specs.declared.end.HostEnd.{HostEnd}
 use Rattle.scons_host.specs.declared.end.HostEnd.TheVariants as end
-use Rattle.scons_host.specs.declared.kept.Kept.{Kept}
 use Rattle.scons_host.specs.declared.stop.Stop.{Stop}
 use Rattle.scons_host.specs.declared.stop.Stop.TheVariants as stop
 use Rattle.scons_host.specs.Causes.{Outside, at_counts, HasStopCause, HasLookCause, HasEndCause, HasCause, IsOwn, IsEndOf, KeepsEnd, HasKeptCause}
-use Rattle.world_api.specs.Looks.{LooksAtFiles}
 use Rattle.scons_host.specs.Prints.{Prints}
-use Rattle.scons_host.specs.Reading.{Seen, seen, outside_of, Keeps, Serves, Refuses, Does, reading}
-use Rattle.world_api.proofs.Looking.{files_same, files_joined}
 
 -- the same counts
 pub counts_same : (a b : Counts) (x y : ℕ) → b ≡ a → y ≡ x → at_counts b y ≡ at_counts a x
@@ -87,91 +79,3 @@ prints_joined p a b c f g = record {
       (first.0 ++ second.0, second.1 ∙ ap (λ s. s ++ second.0) first.1 ∙ append_assoc (p.text a) first.0 second.0);
   faults = let x = f.faults in let y = g.faults in omega arith;
 }
-
-module _ {W S : Type 0} (m : Meaning W) (p : SinkMeaning S) where
-  pub keeps_same : (h : Seen W S) → Keeps m p h h
-  keeps_same h = record { looks = files_same m h.world; prints = prints_same p h.out; later = omega arith }
-
-  pub keeps_joined : (a b c : Seen W S) → Keeps m p a b → Keeps m p b c → Keeps m p a c
-  keeps_joined a b c f g = record {
-    looks = files_joined m a.world b.world c.world f.looks g.looks;
-    prints = prints_joined p a.out b.out c.out f.prints g.prints;
-    later = let x = f.later in let y = g.later in omega arith;
-  }
-
-  pub serves_same : (h : Seen W S) → Serves m p h h
-  serves_same h = record { keeps = keeps_same h; well = refl }
-
-  pub serves_joined : (a b c : Seen W S) → Serves m p a b → Serves m p b c → Serves m p a c
-  serves_joined a b c f g = record { keeps = keeps_joined a b c f.keeps g.keeps; well = g.well ∙ f.well }
-
-  -- a refusal behind calls that were answered
-  pub refuses_after : (a b c : Seen W S) → Serves m p a b → Refuses m p b c → Refuses m p a c
-  refuses_after a b c f g = record {
-    keeps = keeps_joined a b c f.keeps g.keeps;
-    counted = rose_back _ _ _ f.keeps.later g.counted;
-    cause = kept_back (outside_of m p a) (outside_of m p b) (outside_of m p c) c.kept.end f.well g.cause;
-  }
-
-  -- a call that was answered: it only looked
-  pub keeps_answered : (w w2 : W) (o : S) (k : Kept) → LooksAtFiles m w w2 → Keeps m p (seen w o k) (seen w2 o k)
-  keeps_answered w w2 o k looks = record { looks = looks; prints = prints_same p o; later = omega arith }
-
-  pub serves_answered : (w w2 : W) (o : S) (k : Kept) → LooksAtFiles m w w2 → m.counts w2 ≡ m.counts w → Serves m p (seen w o k) (seen w2 o k)
-  serves_answered w w2 o k looks same = record {
-    keeps = keeps_answered w w2 o k looks;
-    well = counts_same (m.counts w) (m.counts w2) (p.faults o) (p.faults o) same refl;
-  }
-
-  -- a call that was refused, and what is kept of it
-  pub keeps_refused : (w w2 : W) (o : S) (k k2 : Kept) → LooksAtFiles m w w2 → k.refusals ≤ k2.refusals → Keeps m p (seen w o k) (seen w2 o k2)
-  keeps_refused w w2 o k k2 looks later = record { looks = looks; prints = prints_same p o; later = later }
-
-  pub refuses_looked : (w w2 : W) (o : S) (k k2 : Kept) (s : Stop) → LooksAtFiles m w w2 → HasStopCause (m.counts w) (m.counts w2) s → KeepsEnd s k2.end → Rose k.refusals k2.refusals → Refuses m p (seen w o k) (seen w2 o k2)
-  refuses_looked w w2 o k k2 s looks cause ends rose = let up = rose.later in record {
-    keeps = keeps_refused w w2 o k k2 looks up;
-    counted = rose;
-    cause = kept_caused (m.counts w) (m.counts w2) (p.faults o) s k2.end ends cause;
-  }
-
-  -- a print, and one that was refused
-  pub keeps_printed : (w : W) (o o2 : S) (k k2 : Kept) → Prints p o o2 → k.refusals ≤ k2.refusals → Keeps m p (seen w o k) (seen w o2 k2)
-  keeps_printed w o o2 k k2 prints later = record { looks = files_same m w; prints = prints; later = later }
-
-  pub serves_printed : (w : W) (o o2 : S) (k : Kept) → Prints p o o2 → p.faults o2 ≡ p.faults o → Serves m p (seen w o k) (seen w o2 k)
-  serves_printed w o o2 k prints same = record {
-    keeps = keeps_printed w o o2 k k prints (omega arith);
-    well = counts_same (m.counts w) (m.counts w) (p.faults o) (p.faults o2) refl same;
-  }
-
-  pub refuses_unprinted : (w : W) (o o2 : S) (k k2 : Kept) → Prints p o o2 → Rose (p.faults o) (p.faults o2) → KeepsEnd stop.Out k2.end → Rose k.refusals k2.refusals → Refuses m p (seen w o k) (seen w o2 k2)
-  refuses_unprinted w o o2 k k2 prints rose ends counted = let up = counted.later in record {
-    keeps = keeps_printed w o o2 k k2 prints up;
-    counted = counted;
-    cause = unprinted_caused (m.counts w) (p.faults o) (p.faults o2) k2.end ends rose;
-  }
-
-  does_keep : {X : Type 0} (a : Answered X) (h h2 : Seen W S) → Does m p a h h2 → Keeps m p h h2 × Counted a h.kept.refusals h2.kept.refusals
-  does_keep (answers x) h h2 d = (d.keeps, d.keeps.later)
-  does_keep refuses h h2 d = (d.keeps, d.counted)
-
-  pub reading_kept : IsKept (reading m p)
-  reading_kept = record {
-    same = λ h. keeps_same h;
-    joins = λ a b c f g. keeps_joined a b c f g;
-    later = λ a b k. k.later;
-    told = λ a b k t. t;
-    escaped_on = λ a b c x k. x;
-    escaped_back = λ a b c k x. x;
-    names = λ h h2 name v k. k.keeps;
-    prints = λ h h2 text a k. does_keep a h h2 k;
-    replies = λ q h h2 o o2 a k. does_keep a h h2 k.0;
-    stands = λ q h h2 o o2 a k. k.1;
-  }
-
-  pub reading_determined : IsDetermined (reading m p)
-  reading_determined = record {
-    names = λ h1 k1 h2 k2 name v w t1 t2 alike f g. absurd t1;
-    prints = λ h1 k1 h2 k2 text a b t1 t2 alike f g. absurd t1;
-    replies = λ q h1 k1 h2 k2 o o1 o2 a b t1 t2 alike f g. absurd t1;
-  }

@@ -13,7 +13,6 @@ pub mod Looking
 pub mod Lookups
 pub mod Plain
 pub mod Prints
-pub mod Reading
 pub mod ReadingRules
 pub mod Refusals
 pub mod Saying

@@ -28,6 +28,19 @@ pub record Seen (W O S : Type 0) : Type 0 where
   pub state : S
   pub kept : Kept
 
+abbrev pub seen : {W O S : Type 0} → W → O → S → Kept → Seen W O S
+seen world out state kept = record { world = world; out = out; state = state; kept = kept }
+
+-- the names of the references that a host holds
+pub record Held (N : Type 0) : Type 0 where
+  pub world : N
+  pub out : N
+  pub state : N
+  pub kept : N
+
+abbrev pub held : {N : Type 0} → N → N → N → N → Held N
+held world out state kept = record { world = world; out = out; state = state; kept = kept }
+
 -- an end of the file tree or of the sink
 abbrev pub IsOutside : HostEnd → Type 0
 IsOutside (end.Tree path) = Unit {0}

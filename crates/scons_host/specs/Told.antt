@@ -13,6 +13,7 @@ use Rattle.scons_host.specs.declared.end.HostEnd.{HostEnd}
 use Rattle.scons_host.specs.declared.end.HostEnd.TheVariants as end
 use Rattle.scons_host.specs.declared.end.ReadKind.{ReadKind}
 use Rattle.scons_host.specs.declared.end.ReadKind.TheVariants as read
+use Rattle.scons_host.specs.declared.site.Site.{Site}
 use Rattle.scons_host.specs.declared.stop.Stop.{Stop}
 use Rattle.scons_host.specs.declared.stop.Stop.TheVariants as stop
 use Rattle.scons_host.specs.Lookups.{script_at}
@@ -82,16 +83,20 @@ abbrev pub called_thing : Things → Option HostId → Option Thing
 called_thing things (Some object) = slice_get things object.0
 called_thing things None = None
 
--- the end of a stop on a line of a script
-abbrev pub end_of : List ℕ → ℕ → Option Thing → Stop → HostEnd
-end_of script line called (stop.Here kind) = end.Reading script line (as_called called kind)
-end_of script line called (stop.There path at kind) = end.Reading path at kind
-end_of script line called (stop.Tree path) = end.Tree path
-end_of script line called stop.Out = end.Out
-end_of script line called (stop.TooLarge path size) = end.TooLarge path size
-end_of script line called (stop.TooMany what count) = end.TooMany what count
-end_of script line called stop.Memory = end.Memory
+-- where a question stands, which may be the call of an object
+abbrev pub site_at : SoFar → Place → Option HostId → Site
+site_at s place called = record { script = script_at s place.script; line = place.line; called = called_thing s.objects called }
+
+-- the end of a stop at a site
+abbrev pub end_of : Site → Stop → HostEnd
+end_of site (stop.Here kind) = end.Reading site.script site.line (as_called site.called kind)
+end_of site (stop.There path at kind) = end.Reading path at kind
+end_of site (stop.Tree path) = end.Tree path
+end_of site stop.Out = end.Out
+end_of site (stop.TooLarge path size) = end.TooLarge path size
+end_of site (stop.TooMany what count) = end.TooMany what count
+end_of site stop.Memory = end.Memory
 
 -- the end of a stop at a place
 abbrev pub end_at : SoFar → Place → Option HostId → Stop → HostEnd
-end_at s place called e = end_of (script_at s place.script) place.line (called_thing s.objects called) e
+end_at s place called e = end_of (site_at s place called) e

@@ -1,61 +1,43 @@
 //! How a call's name is written where it is at fault.
-ghost use Rattle.std.specs.Prelude.{◌≡◌, IfOk, OnErr, slice_get};
+ghost use Rattle.std.specs.Prelude.{◌≡◌, IfOk, OnErr, option_copied};
 ghost use Rattle.scons_host.specs.Told as spec;
 
 use crate::end::ReadKind;
-use py_heap::HostId;
 use scons_base::{Memory, Text};
-use scons_calls::{Objects, Thing};
+use scons_calls::Thing;
 use scons_decls::NameFault;
 use std::alloc::Global;
 
 /// A fault of the arguments of a call, with the name as it was called: a method's behind `env.`. Another fault as it is.
-pub fn as_called(
-    objects: &Objects,
-    called: Option<HostId>,
-    kind: ReadKind,
-) -> Result<ReadKind, Memory>
-    ensures told { IfOk result (λ k. k ≡ spec.as_called (spec.called_thing objects.now called) kind) }
+pub fn as_called(alloc: Global, called: Option<&Thing>, kind: ReadKind) -> Result<ReadKind, Memory>
+    ensures told { IfOk result (λ k. k ≡ spec.as_called (option_copied called.entry) kind) }
     ensures memory { OnErr result (spec.TakesMemory kind) }
 {
     match kind {
-        ReadKind::Name(fault) => Ok(ReadKind::Name(name_as_called(objects, called, fault)?)),
+        ReadKind::Name(fault) => Ok(ReadKind::Name(name_as_called(alloc, called, fault)?)),
         kind => Ok(kind),
     }
 }
 
 fn name_as_called(
-    objects: &Objects,
-    called: Option<HostId>,
+    alloc: Global,
+    called: Option<&Thing>,
     fault: NameFault,
 ) -> Result<NameFault, Memory>
-    ensures told { IfOk result (λ f. f ≡ spec.name_as_called (spec.called_thing objects.now called) fault) }
+    ensures told { IfOk result (λ f. f ≡ spec.name_as_called (option_copied called.entry) fault) }
     ensures memory { OnErr result (spec.NamesCall fault) }
 {
     match fault {
-        NameFault::BadArgument(name) => {
-            Ok(NameFault::BadArgument(renamed(objects, called, name)?))
-        }
+        NameFault::BadArgument(name) => Ok(NameFault::BadArgument(written(alloc, called, name)?)),
         fault => Ok(fault),
     }
 }
 
-/// A name at fault, where an object may be called.
-fn renamed(objects: &Objects, called: Option<HostId>, name: Text) -> Result<Text, Memory>
-    ensures { IfOk result (λ text. text ≡ spec.written (spec.called_thing objects.now called) name) }
+/// A name at fault, where something may be called.
+fn written(alloc: Global, called: Option<&Thing>, name: Text) -> Result<Text, Memory>
+    ensures { IfOk result (λ text. text ≡ spec.written (option_copied called.entry) name) }
 {
     match called {
-        Some(object) => written(objects, object, name),
-        None => Ok(name),
-    }
-}
-
-/// How an object is written that is called, where the name at fault is its own.
-fn written(objects: &Objects, object: HostId, name: Text) -> Result<Text, Memory>
-    ensures { IfOk result (λ text. text ≡ spec.written (slice_get objects.now object.0) name) }
-{
-    let alloc = objects.allocator();
-    match objects.thing(object) {
         Some(Thing::Name(known)) => alone(alloc, known.text(), name),
         Some(Thing::Method(_, known)) => method_of(alloc, known.text(), name),
         Some(Thing::OwnMethod(_, own)) => own_method(alloc, own.as_str(), name),

@@ -1,15 +1,16 @@
 //! The host: each of its calls is a function on the state of the reading, and what it refuses is kept there.
-ghost use Rattle.std.specs.Prelude.{◌≡◌, ◌≤◌, Some};
-ghost use Rattle.scons_base.specs.Rising.{Rose};
-ghost use Rattle.scons_host.specs.Causes.{KeepsEnd};
+ghost use Rattle.std.specs.Prelude.{◌≡◌};
+ghost use Rattle.scons_host.specs.ReadingRules.{place_in};
+ghost use Rattle.scons_host.specs.Sharing.{innermost};
 ghost use Rattle.scons_host.specs.SoFar.{so_far};
-ghost use Rattle.scons_host.specs.Told.{end_at};
 
 use crate::asked::{attribute, item, set_item};
 use crate::calls::{Caller, call};
 use crate::kept::Kept;
 use crate::printing::print;
+use crate::scopes::innermost as innermost_call;
 use crate::scripts::{next_first, script_done};
+use crate::site::site_of;
 use crate::state::State;
 use crate::stop::Stop;
 use py_heap::{Heap, HostId, Value};
@@ -29,24 +30,13 @@ pub struct ReadingHost<'w, 'o, 's, 'k, W: World, O: Sink> {
 /// The place of a fault that no call is at.
 const NOWHERE: Place = Place { script: 0, line: 0 };
 
-/// Keeps why something at a place is refused; `called` is the object that is called there.
-fn refuse(
-    state: &State,
-    kept: &mut Kept,
-    place: Place,
-    called: Option<HostId>,
-    stop: Stop,
-) -> HostRefusal
-    ensures told { result ≡ HostRefusal.Host → kept.new.end ≡ Some (end_at (so_far state.now) place called stop) }
-    ensures end { result ≡ HostRefusal.Host → KeepsEnd stop kept.new.end }
-    ensures untold { stop ≡ Stop.Memory → result ≡ HostRefusal.Memory }
-    ensures same { result ≡ HostRefusal.Memory → kept.new ≡ kept.old }
-    ensures later { kept.old.refusals ≤ kept.new.refusals }
-    ensures counted { result ≡ HostRefusal.Host → Rose kept.old.refusals kept.new.refusals }
+/// The place of the call that reads the script that runs.
+fn place_of(state: &State) -> Place
+    ensures { result ≡ place_in (innermost (so_far state.now)) }
 {
-    match state.script_at(place.script) {
-        Ok(script) => kept.refuse(&state.objects, called, script, place.line, stop),
-        Err(_) => HostRefusal::Memory,
+    match innermost_call(state) {
+        Some(call) => call.place,
+        None => NOWHERE,
     }
 }
 
@@ -72,6 +62,8 @@ impl<W: World, O: Sink> Host for ReadingHost<'_, '_, '_, '_, W, O> {
         object: HostId,
         args: &Args,
     ) -> Result<Reply, HostRefusal> {
+        let alloc = self.state.alloc;
+        let site = site_of(self.state, place, Some(object))?;
         let caller = Caller {
             place,
             locals,
@@ -79,7 +71,7 @@ impl<W: World, O: Sink> Host for ReadingHost<'_, '_, '_, '_, W, O> {
         };
         match call(self.state, self.world, heap, caller, object, args) {
             Ok(reply) => Ok(reply),
-            Err(stop) => Err(refuse(self.state, self.kept, place, Some(object), stop)),
+            Err(stop) => Err(self.kept.refuse(alloc, site, stop)),
         }
     }
 
@@ -90,9 +82,11 @@ impl<W: World, O: Sink> Host for ReadingHost<'_, '_, '_, '_, W, O> {
         object: HostId,
         name: &str,
     ) -> Result<Value, HostRefusal> {
+        let alloc = self.state.alloc;
+        let site = site_of(self.state, place, None)?;
         match attribute(self.state, heap, object, name) {
             Ok(value) => Ok(value),
-            Err(refusal) => Err(refuse(self.state, self.kept, place, None, Stop::from(refusal))),
+            Err(refusal) => Err(self.kept.refuse(alloc, site, Stop::from(refusal))),
         }
     }
 
@@ -103,9 +97,11 @@ impl<W: World, O: Sink> Host for ReadingHost<'_, '_, '_, '_, W, O> {
         object: HostId,
         key: Value,
     ) -> Result<Value, HostRefusal> {
+        let alloc = self.state.alloc;
+        let site = site_of(self.state, place, None)?;
         match item(self.state, heap, place, object, key) {
             Ok(value) => Ok(value),
-            Err(refusal) => Err(refuse(self.state, self.kept, place, None, Stop::from(refusal))),
+            Err(refusal) => Err(self.kept.refuse(alloc, site, Stop::from(refusal))),
         }
     }
 
@@ -117,34 +113,39 @@ impl<W: World, O: Sink> Host for ReadingHost<'_, '_, '_, '_, W, O> {
         key: Value,
         value: Value,
     ) -> Result<(), HostRefusal> {
+        let alloc = self.state.alloc;
+        let site = site_of(self.state, place, None)?;
         match set_item(self.state, heap, place, object, key, value) {
             Ok(()) => Ok(()),
-            Err(refusal) => Err(refuse(self.state, self.kept, place, None, Stop::from(refusal))),
+            Err(refusal) => Err(self.kept.refuse(alloc, site, Stop::from(refusal))),
         }
     }
 
     fn print(&mut self, text: &str) -> Result<(), HostRefusal> {
         match print(self.out, text) {
             Ok(()) => Ok(()),
-            Err(_) => Err(refuse(self.state, self.kept, NOWHERE, None, Stop::Out)),
+            Err(_) => {
+                let site = site_of(self.state, NOWHERE, None)?;
+                Err(self.kept.refuse(self.state.alloc, site, Stop::Out))
+            }
         }
     }
 
     fn script_done(&mut self, heap: &mut Heap, _names: &Scope) -> Result<Reply, HostRefusal> {
-        let place = match self.state.open.last() {
-            Some(call) => call.place,
-            None => NOWHERE,
-        };
+        let alloc = self.state.alloc;
+        let site = site_of(self.state, place_of(self.state), None)?;
         match script_done(self.state, self.world, heap) {
             Ok(reply) => Ok(reply),
-            Err(stop) => Err(refuse(self.state, self.kept, place, None, stop)),
+            Err(stop) => Err(self.kept.refuse(alloc, site, stop)),
         }
     }
 
     fn next_script(&mut self, _heap: &mut Heap) -> Result<Option<Script>, HostRefusal> {
+        let alloc = self.state.alloc;
+        let site = site_of(self.state, NOWHERE, None)?;
         match next_first(self.state, self.world) {
             Ok(script) => Ok(script),
-            Err(stop) => Err(refuse(self.state, self.kept, NOWHERE, None, stop)),
+            Err(stop) => Err(self.kept.refuse(alloc, site, stop)),
         }
     }
 }

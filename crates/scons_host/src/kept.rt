@@ -6,11 +6,10 @@ ghost use Rattle.scons_host.specs.Told as spec;
 
 use crate::called::as_called;
 use crate::end::{HostEnd, ReadKind};
+use crate::site::Site;
 use crate::stop::Stop;
-use py_heap::HostId;
 use py_host::HostRefusal;
-use scons_base::PathText;
-use scons_calls::Objects;
+use std::alloc::Global;
 
 /// Why the last call that was refused was refused, and how many were.
 #[derive(Drop)]
@@ -20,17 +19,9 @@ pub struct Kept {
 }
 
 impl Kept {
-    /// Keeps why something is refused that stands on a line of a script, where an object may be called.
-    pub fn refuse(
-        &mut self,
-        objects: &Objects,
-        called: Option<HostId>,
-        script: PathText,
-        line: u32,
-        stop: Stop,
-    ) -> HostRefusal
-        ensures told { result ≡ HostRefusal.Host
-            → self.new.end ≡ Some (spec.end_of script line (spec.called_thing objects.now called) stop) }
+    /// Keeps why a question is refused.
+    pub fn refuse(&mut self, alloc: Global, site: Site, stop: Stop) -> HostRefusal
+        ensures told { result ≡ HostRefusal.Host → self.new.end ≡ Some (spec.end_of site stop) }
         ensures end { result ≡ HostRefusal.Host → KeepsEnd stop self.new.end }
         ensures memory { result ≡ HostRefusal.Memory → spec.MayBeShort stop }
         ensures untold { stop ≡ Stop.Memory → result ≡ HostRefusal.Memory }
@@ -38,7 +29,7 @@ impl Kept {
         ensures later { self.old.refusals ≤ self.new.refusals }
         ensures counted { result ≡ HostRefusal.Host → Rose self.old.refusals self.new.refusals }
     {
-        let Some(end) = end_of(objects, called, script, line, stop) else {
+        let Some(end) = end_of(alloc, site, stop) else {
             return HostRefusal::Memory;
         };
         self.end = Some(end);
@@ -47,22 +38,16 @@ impl Kept {
     }
 }
 
-/// The end of a stop on a line of a script; none for want of memory, which isn't told by the host.
-fn end_of(
-    objects: &Objects,
-    called: Option<HostId>,
-    script: PathText,
-    line: u32,
-    stop: Stop,
-) -> Option<HostEnd>
-    ensures told { IfSome result (λ e. e ≡ spec.end_of script line (spec.called_thing objects.now called) stop) }
+/// The end of a stop at a site; none for want of memory, which isn't told by the host.
+fn end_of(alloc: Global, site: Site, stop: Stop) -> Option<HostEnd>
+    ensures told { IfSome result (λ e. e ≡ spec.end_of site stop) }
     ensures end { IfSome result (IsEndOf stop) }
     ensures memory { IfNone result (spec.MayBeShort stop) }
     ensures untold { stop ≡ Stop.Memory → result ≡ None }
 {
     match stop {
         Stop::Memory => None,
-        Stop::Here(kind) => here(objects, called, script, line, kind),
+        Stop::Here(kind) => here(alloc, site, kind),
         Stop::There(script, line, kind) => Some(HostEnd::Reading(script, line, kind)),
         Stop::Tree(path) => Some(HostEnd::Tree(path)),
         Stop::Out => Some(HostEnd::Out),
@@ -71,21 +56,14 @@ fn end_of(
     }
 }
 
-/// The end of a fault of a script's line, told as it was called.
-fn here(
-    objects: &Objects,
-    called: Option<HostId>,
-    script: PathText,
-    line: u32,
-    kind: ReadKind,
-) -> Option<HostEnd>
-    ensures told { let called = spec.called_thing objects.now called in
-        IfSome result (λ e. e ≡ HostEnd.Reading script line (spec.as_called called kind)) }
+/// The end of a fault at a site, told as it was called.
+fn here(alloc: Global, site: Site, kind: ReadKind) -> Option<HostEnd>
+    ensures told { IfSome result (λ e. e ≡ HostEnd.Reading site.script site.line (spec.as_called site.called kind)) }
     ensures own { IfSome result IsOwn }
     ensures memory { IfNone result (spec.TakesMemory kind) }
 {
-    match as_called(objects, called, kind) {
-        Ok(kind) => Some(HostEnd::Reading(script, line, kind)),
+    match as_called(alloc, site.called.as_ref(), kind) {
+        Ok(kind) => Some(HostEnd::Reading(site.script, site.line, kind)),
         Err(_) => None,
     }
 }

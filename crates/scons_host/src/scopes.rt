@@ -86,7 +86,7 @@ fn put_name(scope: &mut Scope, name: &Text, locals: &Scope, globals: &Scope) -> 
 
 /// The call that reads the script that runs.
 #[tactic(auto, using(crate::proofs::Lasts::lasts))]
-fn innermost(state: &State) -> Option<&OpenCall>
+pub fn innermost(state: &State) -> Option<&OpenCall>
     ensures { option_map waiting_of (option_copied result) ≡ spec.innermost (so_far state.now) }
 {
     state.open.last()
