@@ -1,6 +1,6 @@
 -- Scripts that begin and end, as the code finds, reads and refuses them.
 use Rattle.std.proofs.Common.{arith, ◌≡◌, ◌≢◌, ◌∙◌, ◌≤◌, ◌<◌, ◌+◌, ◌-◌, ℕ, suc, List, [], ◌∷◌, ◌++◌, Option, Some, None, Result, Ok, Err, map, drop, take, length, get_or, refl, sym, ap, subst, add-one, drop-cons}
-use Rattle.std.specs.Prelude.{slice_get, MatchOption, option_to_list}
+use Rattle.std.specs.Prelude.{slice_get, MatchOption, option_to_list, IfOk, IfErr, IsErrAnd}
 use Rattle.std.specs.Option.{option_map}
 use Rattle.std.proofs.lemmas.List.{length-map, take-map, drop_all}
 use Rattle.std.proofs.lemmas.Option.{slice_get-get_or, slice_get_past}
@@ -49,6 +49,22 @@ then_goes made more x r is on = ap (λ m. and_then m more) is ∙ on
 
 pub told_goes : {X D E : Type 0} (f : D → E) (made : Result X D) (x : X) → made ≡ Ok x → told_by f made ≡ Ok x
 told_goes f made x is = ap (told_by f) is
+
+-- Results.
+
+-- the exit of a `?`
+pub exit_at : {T : Type 0} (P : Stop → Type 0) (e : Stop) (made : Result T Stop) → IsErrAnd made (λ s. s ≡ e) → P e → IfErr made P
+exit_at P e (Ok x) is holds = absurd is
+exit_at P e (Err s) is holds = subst P (sym is) holds
+
+-- a result that is returned as it is, of a part to which the whole comes
+pub ok_same : {T X : Type 0} (made : Result T Stop) (see : T → X) (part whole : Result X Stop) → whole ≡ part → IfOk made (λ x. part ≡ Ok (see x)) → IfOk made (λ x. whole ≡ Ok (see x))
+ok_same (Ok x) see part whole same is = same ∙ is
+ok_same (Err e) see part whole same is = tt
+
+pub err_same : {T X : Type 0} (made : Result T Stop) (part whole : Result X Stop) → whole ≡ part → IfErr made (λ e. IsTold e → part ≡ Err (untold_stop e)) → IfErr made (λ e. IsTold e → whole ≡ Err (untold_stop e))
+err_same (Ok x) part whole same is = tt
+err_same (Err e) part whole same is = λ told. same ∙ is told
 
 -- Lists.
 

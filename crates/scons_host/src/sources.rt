@@ -42,8 +42,8 @@ pub fn standing<W: World>(world: &mut W, paths: &[PathText]) -> Result<Option<So
 {
     for path in paths {
         if let Some(bytes) = read(world, path)? {
-            let path = path.copy()?;
-            return Ok(Some(Source { path, bytes }));
+            let copy = path.copy()?;
+            return Ok(Some(Source { path: copy, bytes }));
         }
     }
     Ok(None)
