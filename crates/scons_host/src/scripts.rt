@@ -107,7 +107,10 @@ pub fn script_done<W: World>(
 {
     state.declared.end_script();
     match call_taken(state) {
-        Some(call) => go_on(state, world, heap, with_answer(call)?),
+        Some(call) => {
+            let after = with_answer(call)?;
+            go_on(state, world, heap, after)
+        }
         None => Ok(Reply::Value(Value::Nil)),
     }
 }
