@@ -185,6 +185,6 @@ pub listed_more : (list : List ℕ → Paths) (files more all dirs : Paths) (i :
 listed_more list files more all dirs i dir within at here there is =
     let front = flat_map list (take i dirs) in
     let e : flat_map list (take (i + 1) dirs) ≡ front ++ list dir =
-    ap (flat_map list) (take_more dirs i dir within) ∙ flat_map-append list (take i dirs) (get_or dirs i dir ∷ [])
-    ∙ ap (λ ys. front ++ ys) (append-nil (list (get_or dirs i dir))) ∙ ap (λ d. front ++ list d) (sym at) in
+        ap (flat_map list) (take_more dirs i dir within) ∙ flat_map-append list (take i dirs) (get_or dirs i dir ∷ [])
+        ∙ ap (λ ys. front ++ ys) (append-nil (list (get_or dirs i dir))) ∙ ap (λ d. front ++ list d) (sym at) in
     subst (λ xs. SamePaths xs (flat_map list (take (i + 1) dirs))) (sym is) (subst (SamePaths (files ++ more)) (sym e) (paths_behind files front more (list dir) here there))

@@ -251,7 +251,10 @@ fn missed(place: &ScriptPlace) -> &PathText
     ensures { result.now ≡ spec.missed place.now }
 {
     let candidates = place.candidates.as_slice();
-    match elsewhere(candidates, &place.dir).or(candidates.first()) {
+    if let Some(path) = elsewhere(candidates, &place.dir) {
+        return path;
+    }
+    match candidates.first() {
         Some(path) => path,
         None => &place.dir,
     }
