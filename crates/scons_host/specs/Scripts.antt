@@ -1,6 +1,5 @@
 -- Scripts that read scripts: scons(1) under SConscript, and the first scripts, which the words of the command line name.
 use Rattle.std.specs.Prelude.{ℕ, ◌-◌, ◌==◌, Bool, true, false, not, ◌&&◌, List, [], ◌∷◌, ◌++◌, Option, Some, None, Result, Ok, Err, codes, length, drop, take, is_some, slice_get, unwrap_or, if◌then◌else◌}
-use Rattle.std.specs.Option.{option_or}
 use Rattle.std.specs.List.{find}
 use Rattle.std.specs.Str.{bytes_eq}
 use Rattle.scons_base.specs.declared.limits.TheConstants.{SCRIPT_LIMIT}
@@ -85,7 +84,7 @@ elsewhere dir paths = find (λ path. not (bytes_eq (dir_of path) dir)) paths
 
 -- where a script is missed: at its source, which lies in another directory, where it has one
 abbrev pub missed : ScriptPlace → List ℕ
-missed place = unwrap_or (option_or (elsewhere place.dir place.candidates) (slice_get place.candidates 0)) place.dir
+missed place = unwrap_or (elsewhere place.dir place.candidates) (unwrap_or (slice_get place.candidates 0) place.dir)
 
 abbrev pub begins_at : Files → SoFar → ScriptPlace → Option Source → Result (Tree × SoFar) Stop
 begins_at f s place (Some source) = begins f s source place.dir

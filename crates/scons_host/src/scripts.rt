@@ -107,7 +107,10 @@ pub fn script_done<W: World>(
 {
     state.declared.end_script();
     match call_taken(state) {
-        Some(call) => go_on(state, world, heap, with_answer(call)?),
+        Some(call) => {
+            let after = with_answer(call)?;
+            go_on(state, world, heap, after)
+        }
         None => Ok(Reply::Value(Value::Nil)),
     }
 }
@@ -248,7 +251,10 @@ fn missed(place: &ScriptPlace) -> &PathText
     ensures { result.now ≡ spec.missed place.now }
 {
     let candidates = place.candidates.as_slice();
-    match elsewhere(candidates, &place.dir).or(candidates.first()) {
+    if let Some(path) = elsewhere(candidates, &place.dir) {
+        return path;
+    }
+    match candidates.first() {
         Some(path) => path,
         None => &place.dir,
     }

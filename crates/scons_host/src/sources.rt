@@ -7,7 +7,7 @@ ghost use Rattle.scons_host.specs.Causes.{HasLookCause, IsInside};
 ghost use Rattle.scons_host.specs.Forms.{IsForm};
 ghost use Rattle.scons_host.specs.Scripts as spec;
 ghost use Rattle.scons_host.specs.Shown.{Shown, IsTold};
-ghost use Rattle.scons_host.specs.Untold.{untold_kind};
+ghost use Rattle.scons_host.specs.Untold.{untold_kind, untold_stop};
 ghost use Rattle.world_api.specs.Looks.{LooksAtFiles};
 
 use crate::asks::bytes_of;
@@ -38,12 +38,12 @@ pub fn standing<W: World>(world: &mut W, paths: &[PathText]) -> Result<Option<So
     ensures ok { Shown W.meaning world.old world.new (λ f.
         IfOk result (λ source. spec.standing f paths.now ≡ Ok source)) }
     ensures fault { Shown W.meaning world.old world.new (λ f.
-        IfErr result (λ e. IsTold e → spec.standing f paths.now ≡ Err e)) }
+        IfErr result (λ e. IsTold e → spec.standing f paths.now ≡ Err (untold_stop e))) }
 {
     for path in paths {
         if let Some(bytes) = read(world, path)? {
-            let path = path.copy()?;
-            return Ok(Some(Source { path, bytes }));
+            let copy = path.copy()?;
+            return Ok(Some(Source { path: copy, bytes }));
         }
     }
     Ok(None)
@@ -57,7 +57,7 @@ pub fn read<W: World>(world: &mut W, path: &PathText) -> Result<Option<Blob>, St
     ensures ok { Shown W.meaning world.old world.new (λ f.
         IfOk result (λ bytes. spec.bytes_at f path.now ≡ Ok bytes)) }
     ensures fault { Shown W.meaning world.old world.new (λ f.
-        IfErr result (λ e. IsTold e → spec.bytes_at f path.now ≡ Err e)) }
+        IfErr result (λ e. IsTold e → spec.bytes_at f path.now ≡ Err (untold_stop e))) }
 {
     match bytes_of(world, path, SCRIPT_LIMIT) {
         Ok(content) => Ok(content),
