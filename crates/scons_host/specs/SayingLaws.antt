@@ -10,10 +10,11 @@ use Rattle.world_api.specs.Meaning.{Meaning}
 use Rattle.world_api.specs.Printed.{SinkMeaning}
 use Rattle.world_api.proofs.Looking.{files_same, files_joined}
 use Rattle.scons_host.specs.declared.end.HostEnd.{HostEnd}
+use Rattle.scons_host.specs.declared.kept.Kept.{Kept}
 use Rattle.scons_host.specs.Files.{Files}
 use Rattle.scons_host.specs.Laws.{prints_same, prints_joined}
 use Rattle.scons_host.specs.Prints.{Prints}
-use Rattle.scons_host.specs.Saying.{Seen, Keeps, Serves, Refuses, Printed, Unprinted, Says, Writes, saying}
+use Rattle.scons_host.specs.Saying.{Seen, seen, Keeps, Serves, Refuses, Printed, Unprinted, Says, Writes, saying}
 use Rattle.scons_host.specs.Turns.{Rules}
 
 out_prints : {O : Type 0} (p : SinkMeaning O) (a b : O) → b ≡ a → Prints p a b
@@ -32,6 +33,17 @@ module _ {W O S : Type 0} (m : Meaning W) (p : SinkMeaning O) where
     prints = prints_joined p a.out b.out c.out f.prints g.prints;
     later = let x = f.later in let y = g.later in omega arith;
   }
+
+  -- a question that was answered or refused: it only looked
+  pub keeps_answered : (w w2 : W) (o : O) (s s2 : S) (k : Kept) → LooksAtFiles m w w2 → Keeps m p (seen w o s k) (seen w2 o s2 k)
+  keeps_answered w w2 o s s2 k looks = record { looks = looks; prints = prints_same p o; later = omega arith }
+
+  pub keeps_refused : (w w2 : W) (o : O) (s s2 : S) (k k2 : Kept) → LooksAtFiles m w w2 → k.refusals ≤ k2.refusals → Keeps m p (seen w o s k) (seen w2 o s2 k2)
+  keeps_refused w w2 o s s2 k k2 looks later = record { looks = looks; prints = prints_same p o; later = later }
+
+  -- a print, and one that was refused
+  pub keeps_printed : (w : W) (o o2 : O) (s : S) (k k2 : Kept) → Prints p o o2 → k.refusals ≤ k2.refusals → Keeps m p (seen w o s k) (seen w o2 s k2)
+  keeps_printed w o o2 s k k2 prints later = record { looks = files_same m w; prints = prints; later = later }
 
   serves_keeps : (h k : Seen W O S) → Serves m p h k → Keeps m p h k
   serves_keeps h k s = record { looks = s.looks; prints = out_prints p h.out k.out s.out; later = let e : k.kept.refusals ≡ h.kept.refusals = ap (λ t. t.refusals) s.kept in omega arith }

@@ -1,28 +1,58 @@
-use Rattle.std.proofs.Common.{◌≡◌, refl}
+use Rattle.std.proofs.Common.{◌≡◌, ◌≢◌, ◌∙◌, Some, None, refl, sym, ap}
+use Rattle.std.proofs.Common.{Result, Ok}
+use Rattle.py_heap.specs.Heap.{Objects}
+use Rattle.py_host.specs.Calls as question
+use Rattle.scons_calls.specs.Results.{and_then}
+use Rattle.scons_host.specs.Asked.{set_item}
+use Rattle.scons_host.specs.Refusals.{of_refusal, told_by}
+use Rattle.scons_host.proofs.Scripting.{told_goes, refusal_untold}
 use Rattle.py_host.specs.declared.refusal.HostRefusal.TheVariants as refusal
 use Rattle.py_host.proofs.Extending.{extends_same}
 use Rattle.world_api.proofs.Looking.{files_same}
-use Rattle.scons_host.specs.Looking.{refusal_stops}
-use Rattle.scons_host.specs.Laws.{keeps_answered, serves_answered, keeps_refused, refuses_looked}
+use Rattle.scons_host.specs.ReadingRules.{told, nowhere, reading_rules}
+use Rattle.scons_host.specs.SayingLaws.{keeps_same, keeps_answered, keeps_refused}
+use Rattle.scons_host.specs.Seeing.{seen_of}
+use Rattle.scons_host.specs.SoFar.{so_far}
+use Rattle.scons_host.specs.Told.{end_of}
+use Rattle.scons_host.specs.declared.stop.Stop.TheVariants as stop
+use Rattle.scons_host.proofs.Turning.{kept_ends, says_answer, says_refusal}
 use Rattle.scons_host.proofs.host.ReadingHostHost.set_index.Goals as goal
 
-pub returns-in-Ok-clause-ok : goal.returns-in-Ok-clause-ok
-returns-in-Ok-clause-ok g c =
-    let h = c.args.self.now in
-    (refl, (serves_answered g.W.Disk.meaning g.O.Sink.meaning h.world.now h.world.now h.out.now h.kept.now (files_same g.W.Disk.meaning h.world.now) refl, extends_same c.args.heap.now))
+pub returns-in_err-site-clause-keeps : goal.returns-in_err-site-clause-keeps
+returns-in_err-site-clause-keeps g c = (refl, keeps_same g.W.Disk.meaning g.O.Sink.meaning (seen_of c.args.self.now))
 
 pub returns-in-Ok-clause-keeps : goal.returns-in-Ok-clause-keeps
 returns-in-Ok-clause-keeps g c =
     let h = c.args.self.now in
-    (refl, keeps_answered g.W.Disk.meaning g.O.Sink.meaning h.world.now h.world.now h.out.now h.kept.now (files_same g.W.Disk.meaning h.world.now))
+    (refl, keeps_answered g.W.Disk.meaning g.O.Sink.meaning h.world.now h.world.now h.out.now (so_far h.state.now) (so_far c.set_item.new.state) h.kept.now (files_same g.W.Disk.meaning h.world.now))
 
 pub returns-in-Err-clause-keeps : goal.returns-in-Err-clause-keeps
 returns-in-Err-clause-keeps g c =
     let h = c.args.self.now in
-    (refl, keeps_refused g.W.Disk.meaning g.O.Sink.meaning h.world.now h.world.now h.out.now h.kept.now c.refuse.new.kept (files_same g.W.Disk.meaning h.world.now) c.refuse.ensures.later)
+    (refl, keeps_refused g.W.Disk.meaning g.O.Sink.meaning h.world.now h.world.now h.out.now (so_far h.state.now) (so_far c.set_item.new.state) h.kept.now c.refuse.new.self (files_same g.W.Disk.meaning h.world.now) c.refuse.ensures.later)
+
+pub returns-in-Ok-clause-ok : goal.returns-in-Ok-clause-ok
+returns-in-Ok-clause-ok g c =
+    let h = c.args.self.now in
+    let so = so_far h.state.now in (
+      refl,
+      (
+        says_answer g.W.Disk.meaning g.O.Sink.meaning reading_rules (question.set_item c.args.place c.args.object.0 c.args.key c.args.value) h.world.now h.world.now h.out.now so (so_far c.set_item.new.state) c.args.heap.now c.args.heap.now h.kept.now tt (files_same g.W.Disk.meaning h.world.now) refl
+            (λ f s. ap (told so c.args.place None) (?)),
+        extends_same c.args.heap.now,
+      ),
+    )
 
 pub returns-in-Err-clause-refused : goal.returns-in-Err-clause-refused
 returns-in-Err-clause-refused g c = λ e.
     let h = c.args.self.now in
+    let so = so_far h.state.now in
     let is : c.refuse.result ≡ refusal.Host = cc in
-    (refl, (refuses_looked g.W.Disk.meaning g.O.Sink.meaning h.world.now h.world.now h.out.now h.kept.now c.refuse.new.kept c.from.result (files_same g.W.Disk.meaning h.world.now) (refusal_stops c.in-Err.refusal c.from.result c.from.ensures (g.W.Disk.meaning.counts h.world.now)) (c.refuse.ensures.end is) (c.refuse.ensures.counted is), extends_same c.args.heap.now))
+    let some : c.from.result ≢ stop.Memory = λ none. let short = c.refuse.ensures.untold none in cc in (
+      refl,
+      (
+        says_refusal g.W.Disk.meaning g.O.Sink.meaning reading_rules (question.set_item c.args.place c.args.object.0 c.args.key c.args.value) h.world.now h.world.now h.out.now so (so_far c.set_item.new.state) c.args.heap.now c.args.heap.now h.kept.now c.refuse.new.self c.from.result (files_same g.W.Disk.meaning h.world.now) (c.from.ensures_is) (c.refuse.ensures.end is) (c.refuse.ensures.counted is)
+            (λ f s. kept_ends so c.args.place None (told_by of_refusal (set_step so c.args.heap.now c.args.place c.args.object.0 c.args.key c.args.value)) c.from.result c.refuse.new.self.end some (?) (c.refuse.ensures.told is ∙ ap (λ site. Some (end_of site c.from.result)) c.in_ok-site.ensures)),
+        extends_same c.args.heap.now,
+      ),
+    )
