@@ -48,7 +48,7 @@ loop-path-preserved g c =
       left = λ f s.
           let before = front m c.args.world.now c.loop-path.world c.read.new.world f c.read.ensures.looks s in
           let on = rest m c.args.world.now c.loop-path.world c.read.new.world f there c.read.ensures.looks s in
-          stands_not f c.args.paths.now c.loop-path.path-index c.path-item.result (standing f c.args.paths.now) (omega arith) c.path-item.is (c.in_ok-bytes.ensures.ok f on ∙ ap Ok ?) (c.loop-path.invariant.left f before);
+          stands_not f c.args.paths.now c.loop-path.path-index c.path-item.result (standing f c.args.paths.now) (omega arith) c.path-item.is (c.in_ok-bytes.ensures.ok f on ∙ ap Ok c.in_default.is) (c.loop-path.invariant.left f before);
     }
 
 pub returns-clause-ok : goal.returns-clause-ok
