@@ -68,6 +68,7 @@ pub fn read<W: World>(world: &mut W, path: &PathText) -> Result<Option<Blob>, St
 }
 
 /// A script has more bytes than it may.
+#[tactic(auto, using(crate::specs::Looking::looking))]
 fn too_large(path: &PathText, size: u64) -> Stop
     ensures inside { IsInside result }
     ensures told { IsTold result → result ≡ Stop.TooLarge path.now size }
@@ -79,6 +80,7 @@ fn too_large(path: &PathText, size: u64) -> Stop
 }
 
 /// The script that a source is.
+#[tactic(auto, using(crate::specs::Looking::looking))]
 pub fn script_of(alloc: Global, source: &Source) -> Result<Script, Stop>
     ensures inside { IfErr result IsInside }
     ensures ok { IfOk result (λ script. IsForm source.now.bytes (Ok (script_tree script))) }
@@ -92,6 +94,7 @@ pub fn script_of(alloc: Global, source: &Source) -> Result<Script, Stop>
 }
 
 /// The script that the tokens of a source spell.
+#[tactic(auto, using(crate::specs::Looking::looking))]
 fn script_by(alloc: Global, source: &Source, tokens: &Tokens) -> Result<Script, Stop>
     requires { Lexes source.now.bytes tokens.now }
     ensures inside { IfErr result IsInside }
@@ -108,6 +111,7 @@ fn script_by(alloc: Global, source: &Source, tokens: &Tokens) -> Result<Script, 
 }
 
 /// The fault of a source that has no tokens.
+#[tactic(auto, using(crate::specs::Looking::looking))]
 fn without_tokens(alloc: Global, source: &Source, line: u32, kind: LexKind) -> Stop
     ensures inside { IsInside result }
     ensures there { IsThere source.now.path line (ReadKind.Lex kind []) result }
@@ -119,6 +123,7 @@ fn without_tokens(alloc: Global, source: &Source, line: u32, kind: LexKind) -> S
 }
 
 /// The fault of tokens that are no script.
+#[tactic(auto, using(crate::specs::Looking::looking))]
 fn without_tree(
     alloc: Global,
     source: &Source,
@@ -137,6 +142,7 @@ fn without_tree(
 }
 
 /// A fault on a line of a script.
+#[tactic(auto, using(crate::specs::Looking::looking))]
 fn there(path: &PathText, line: u32, kind: ReadKind) -> Stop
     ensures inside { IsInside result }
     ensures there { IsThere path.now line (untold_kind kind) result }

@@ -11,11 +11,11 @@ use Rattle.scons_host.proofs.scripts.script_done.Goals as goal
 
 pub returns-in_err-after-in-Some-clause-fault : goal.returns-in_err-after-in-Some-clause-fault
 returns-in_err-after-in-Some-clause-fault g c = λ f s.
-    exit_at (λ e. IsTold e → script_done f (so_far c.args.state.now) c.args.heap.now ≡ Err (untold_stop e)) stop.Memory c.from_residual-in_err-after-in-Some.result c.from_residual-in_err-after-in-Some.ensures.1
+    exit_at (λ e. IsTold e → script_done f (so_far c.args.state.now) c.args.heap.now ≡ Err (untold_stop e)) stop.Memory c.from_residual.result c.from_residual.ensures.1
     (λ told. absurd told)
 
-pub returns-in-Some-clause-ok : goal.returns-in-Some-clause-ok
-returns-in-Some-clause-ok g c = λ f s.
+pub returns-in_ok-after-in-Some-clause-ok : goal.returns-in_ok-after-in-Some-clause-ok
+returns-in_ok-after-in-Some-clause-ok g c = λ f s.
     let so = so_far c.args.state.now in
     let mid = so_far c.call_taken.new.state in
     let h = c.args.heap.now in
@@ -25,8 +25,8 @@ returns-in-Some-clause-ok g c = λ f s.
     ok_same c.go_on.result (λ reply. (given_of reply, so_far c.go_on.new.state, c.go_on.new.heap)) part (script_done f so h)
     (done_goes f so mid h (waiting_of c.in-Some.call) after part taken c.in_ok-after-in-Some.ensures refl) (c.go_on.ensures.ok f s)
 
-pub returns-in-Some-clause-fault : goal.returns-in-Some-clause-fault
-returns-in-Some-clause-fault g c = λ f s.
+pub returns-in_ok-after-in-Some-clause-fault : goal.returns-in_ok-after-in-Some-clause-fault
+returns-in_ok-after-in-Some-clause-fault g c = λ f s.
     let so = so_far c.args.state.now in
     let mid = so_far c.call_taken.new.state in
     let h = c.args.heap.now in
