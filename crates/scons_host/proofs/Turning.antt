@@ -1,7 +1,9 @@
 -- What the host answers over a world is the turn of its question, and what it keeps of a refusal is the end of the turn.
-use Rattle.std.proofs.Common.{◌≡◌, ◌⊎◌, ◌∙◌, ◌≢◌, Option, Some, None, Result, Ok, Err, refl, sym, ap, subst, inl, inr}
+use Rattle.std.proofs.Common.{◌≡◌, ◌⊎◌, ◌∙◌, ◌≢◌, ℕ, Option, Some, None, Result, Ok, Err, refl, sym, ap, subst, inl, inr}
 use Rattle.scons_base.specs.Rising.{Rose}
+use Rattle.py_tree.specs.Tree.{Tree}
 use Rattle.py_heap.specs.declared.ids.HostId.{HostId}
+use Rattle.py_heap.specs.declared.value.Value.{Value}
 use Rattle.py_heap.specs.Heap.{Objects}
 use Rattle.py_host.specs.Calls.{Question, Answer, Answered, answers, refuses}
 use Rattle.py_host.specs.declared.place.Place.{Place}
@@ -13,20 +15,26 @@ use Rattle.scons_host.specs.declared.end.HostEnd.TheVariants as end
 use Rattle.scons_host.specs.declared.end.ReadKind.{ReadKind}
 use Rattle.scons_host.specs.declared.end.ReadKind.TheVariants as read
 use Rattle.scons_host.specs.declared.kept.Kept.{Kept}
+use Rattle.scons_host.specs.declared.stop.Refusal.{Refusal}
+use Rattle.scons_host.specs.declared.stop.Refusal.TheVariants as no
 use Rattle.scons_host.specs.declared.stop.Stop.{Stop}
 use Rattle.scons_host.specs.declared.stop.Stop.TheVariants as stop
+use Rattle.scons_calls.specs.Results.{and_then}
+use Rattle.scons_host.specs.Asked.{Step, set_item}
 use Rattle.scons_host.specs.Causes.{HasStopCause, KeepsEnd}
 use Rattle.scons_host.specs.Files.{Files}
 use Rattle.scons_host.specs.Laws.{kept_caused}
-use Rattle.scons_host.specs.ReadingRules.{told}
+use Rattle.scons_host.specs.ReadingRules.{told, set_step, next_step}
+use Rattle.scons_host.specs.Refusals.{of_refusal, told_by}
 use Rattle.scons_host.specs.Says.{Ends}
 use Rattle.scons_host.specs.Saying.{Seen, Sees, IsOutside, Says}
-use Rattle.scons_host.specs.Scripts.{Look}
+use Rattle.scons_host.specs.Scripts.{Look, next_first}
 use Rattle.scons_host.specs.Shown.{Stands, Shown, IsTold}
 use Rattle.scons_host.specs.SoFar.{SoFar}
 use Rattle.scons_host.specs.Told.{end_at}
 use Rattle.scons_host.specs.Turns.{Turn, Rules, answers_with, ends_with}
 use Rattle.scons_host.specs.Untold.{untold_kind, untold_end, untold_stop, untold_if}
+use Rattle.scons_host.proofs.Scripting.{refusal_untold, then_stops}
 
 -- what isn't told isn't told
 untold_twice : (kind : ReadKind) → untold_kind (untold_kind kind) ≡ untold_kind kind
@@ -81,3 +89,19 @@ module _ {W O : Type 0} (m : Meaning W) (p : SinkMeaning O) (r : Rules Files SoF
       → Says m p r q (record { world = w; out = o; state = s; kept = k }) h refuses (record { world = w2; out = o; state = s2; kept = k2 }) h2
   says_refusal k k2 e looks cause keeps rose shown =
       (record { looks = looks; counted = rose; cause = kept_caused (m.counts w) (m.counts w2) (p.faults o) e k2.end keeps cause; out = refl }, λ f sees. shown f (stands_in f k k2 sees))
+
+-- An item that is set, and the next first script.
+
+pub set_well : (s t : SoFar) (h : Objects) (place : Place) (object : ℕ) (key x : Value) → set_item s h place object key x ≡ Ok t → told_by of_refusal (set_step s h place object key x) ≡ Ok (tt, t, h)
+set_well s t h place object key x is = ap (λ made. let r : Look (Unit {0}) = told_by of_refusal (and_then made (λ t. Ok (tt, t, h))) in r) is
+
+pub set_badly : (s : SoFar) (h : Objects) (place : Place) (object : ℕ) (key x : Value) (r : Refusal) (e : Stop) → e ≡ of_refusal r → (r ≢ no.Memory → set_item s h place object key x ≡ Err r) → IsTold e
+    → told_by of_refusal (set_step s h place object key x) ≡ Err (untold_stop e)
+set_badly s h place object key x r e from gives t =
+    refusal_untold (set_step s h place object key x) r e from (λ m. then_stops (set_item s h place object key x) (λ t. let made : Step (Unit {0}) = Ok (tt, t, h) in made) r (gives m)) t
+
+pub next_goes : (f : Files) (s t : SoFar) (h : Objects) (tree : Option Tree) → next_first f s ≡ Ok (tree, t) → next_step f s h ≡ Ok (tree, t, h)
+next_goes f s t h tree is = ap (λ made. let r : Look (Option Tree) = and_then made (λ m. Ok (m.0, m.1, h)) in r) is
+
+pub next_stops : (f : Files) (s : SoFar) (h : Objects) (e : Stop) → next_first f s ≡ Err e → next_step f s h ≡ Err e
+next_stops f s h e is = then_stops (next_first f s) (λ m. let made : Look (Option Tree) = Ok (m.0, m.1, h) in made) e is

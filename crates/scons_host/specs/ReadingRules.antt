@@ -1,6 +1,8 @@
 -- What scripts are answered while they are read, over plain files: each question by its function, and the end that a stop is.
 use Rattle.std.specs.Prelude.{ℕ, Option, Some, None, Result, Ok, Err}
+use Rattle.py_tree.specs.Tree.{Tree}
 use Rattle.py_heap.specs.declared.ids.HostId.{HostId}
+use Rattle.py_heap.specs.declared.value.Value.{Value}
 use Rattle.py_heap.specs.Heap.{Objects}
 use Rattle.py_host.specs.Calls.{Question, Answer}
 use Rattle.py_host.specs.Calls as question
@@ -8,7 +10,7 @@ use Rattle.py_host.specs.declared.place.Place.{Place}
 use Rattle.scons_calls.specs.Results.{and_then}
 use Rattle.scons_host.specs.declared.end.HostEnd.{HostEnd}
 use Rattle.scons_host.specs.declared.stop.Stop.{Stop}
-use Rattle.scons_host.specs.Asked.{name_in, attribute, item, set_item}
+use Rattle.scons_host.specs.Asked.{Step, name_in, attribute, item, set_item}
 use Rattle.scons_host.specs.Calling.{call}
 use Rattle.scons_host.specs.Files.{Files}
 use Rattle.scons_host.specs.Refusals.{of_refusal, told_by}
@@ -33,15 +35,21 @@ abbrev pub place_in : Option Waiting → Place
 place_in (Some waiting) = waiting.place
 place_in None = nowhere
 
+-- an item that is set answers nothing
+abbrev pub set_step : SoFar → Objects → Place → ℕ → Value → Value → Step (Unit {0})
+set_step s h place object key x = and_then (set_item s h place object key x) (λ t. Ok (tt, t, h))
+
+abbrev pub next_step : Files → SoFar → Objects → Look (Option Tree)
+next_step f s h = and_then (next_first f s) (λ m. Ok (m.0, m.1, h))
+
 abbrev pub turn : Files → (q : Question) → SoFar → Objects → Turn SoFar HostEnd (Answer q)
 turn f (question.called place locals globals object args) s h =
     told s place (Some (record { 0 = object })) (call f s h place locals globals object args)
 turn f (question.attribute place object name) s h = told s place None (told_by of_refusal (attribute s h object name))
 turn f (question.item place object key) s h = told s place None (told_by of_refusal (item s h place object key))
-turn f (question.set_item place object key x) s h =
-    told s place None (told_by of_refusal (and_then (set_item s h place object key x) (λ t. Ok (tt, t, h))))
+turn f (question.set_item place object key x) s h = told s place None (told_by of_refusal (set_step s h place object key x))
 turn f (question.script_done names) s h = told s (place_in (innermost s)) None (script_done f s h)
-turn f question.next_script s h = told s nowhere None (and_then (next_first f s) (λ m. Ok (m.0, m.1, h)))
+turn f question.next_script s h = told s nowhere None (next_step f s h)
 
 -- what the names of scripts stand for, and what scripts are answered
 abbrev pub reading_rules : Rules Files SoFar HostEnd

@@ -6,6 +6,7 @@ use Rattle.scons_host.proofs.Scripting.{told_goes, refusal_untold}
 use Rattle.py_host.specs.declared.refusal.HostRefusal.TheVariants as refusal
 use Rattle.py_host.proofs.Extending.{extends_same}
 use Rattle.world_api.proofs.Looking.{files_same}
+use Rattle.scons_host.specs.Looking.{refusal_stops}
 use Rattle.scons_host.specs.ReadingRules.{told, nowhere, reading_rules}
 use Rattle.scons_host.specs.SayingLaws.{keeps_same, keeps_answered, keeps_refused}
 use Rattle.scons_host.specs.Seeing.{seen_of}
@@ -48,7 +49,7 @@ returns-in-Err-clause-refused g c = λ e.
     let some : c.from.result ≢ stop.Memory = λ none. let short = c.refuse.ensures.untold none in cc in (
       refl,
       (
-        says_refusal g.W.Disk.meaning g.O.Sink.meaning reading_rules (question.attribute c.args.place c.args.object.0 c.args.name.now) h.world.now h.world.now h.out.now so (so_far c.attribute.new.state) c.args.heap.now c.attribute.new.heap h.kept.now c.refuse.new.self c.from.result (files_same g.W.Disk.meaning h.world.now) (c.from.ensures_is) (c.refuse.ensures.end is) (c.refuse.ensures.counted is)
+        says_refusal g.W.Disk.meaning g.O.Sink.meaning reading_rules (question.attribute c.args.place c.args.object.0 c.args.name.now) h.world.now h.world.now h.out.now so (so_far c.attribute.new.state) c.args.heap.now c.attribute.new.heap h.kept.now c.refuse.new.self c.from.result (files_same g.W.Disk.meaning h.world.now) (refusal_stops c.in-Err.refusal c.from.result c.from.ensures (g.W.Disk.meaning.counts h.world.now)) (c.refuse.ensures.end is) (c.refuse.ensures.counted is)
             (λ f s. kept_ends so c.args.place None (told_by of_refusal (attribute so c.args.heap.now c.args.object.0 c.args.name.now)) c.from.result c.refuse.new.self.end some (refusal_untold (attribute so c.args.heap.now c.args.object.0 c.args.name.now) c.in-Err.refusal c.from.result c.from.ensures c.in-Err.ensures.fault) (c.refuse.ensures.told is ∙ ap (λ site. Some (end_of site c.from.result)) c.in_ok-site.ensures)),
         c.attribute.ensures.stands,
       ),

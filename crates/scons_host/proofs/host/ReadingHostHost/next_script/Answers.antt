@@ -1,17 +1,17 @@
 use Rattle.std.proofs.Common.{◌≡◌, ◌≢◌, ◌∙◌, Some, None, refl, sym, ap}
 use Rattle.py_host.specs.Calls.{tree_of}
 use Rattle.py_host.specs.Calls as question
-use Rattle.scons_host.specs.Scripts.{next_first}
+use Rattle.scons_host.specs.Untold.{untold_stop}
 use Rattle.py_host.specs.declared.refusal.HostRefusal.TheVariants as refusal
 use Rattle.py_host.proofs.Extending.{extends_same}
 use Rattle.world_api.proofs.Looking.{files_same}
-use Rattle.scons_host.specs.ReadingRules.{told, nowhere, reading_rules}
+use Rattle.scons_host.specs.ReadingRules.{told, nowhere, next_step, reading_rules}
 use Rattle.scons_host.specs.SayingLaws.{keeps_same, keeps_answered, keeps_refused}
 use Rattle.scons_host.specs.Seeing.{seen_of}
 use Rattle.scons_host.specs.SoFar.{so_far}
 use Rattle.scons_host.specs.Told.{end_of}
 use Rattle.scons_host.specs.declared.stop.Stop.TheVariants as stop
-use Rattle.scons_host.proofs.Turning.{kept_ends, says_answer, says_refusal}
+use Rattle.scons_host.proofs.Turning.{next_goes, next_stops, kept_ends, says_answer, says_refusal}
 use Rattle.scons_host.proofs.host.ReadingHostHost.next_script.Goals as goal
 
 pub returns-in_err-site-clause-keeps : goal.returns-in_err-site-clause-keeps
@@ -34,7 +34,7 @@ returns-in-Ok-clause-ok g c =
       refl,
       (
         says_answer g.W.Disk.meaning g.O.Sink.meaning reading_rules (question.next_script) h.world.now c.next_first.new.world h.out.now so (so_far c.next_first.new.state) c.args._heap.now c.args._heap.now h.kept.now (tree_of c.in-Ok.script) c.next_first.ensures.looks c.in-Ok.ensures.cause
-            (λ f s. ap (told so nowhere None) (?)),
+            (λ f s. ap (told so nowhere None) (next_goes f so (so_far c.next_first.new.state) c.args._heap.now (tree_of c.in-Ok.script) (c.in-Ok.ensures.ok f s))),
         extends_same c.args._heap.now,
       ),
     )
@@ -48,7 +48,7 @@ returns-in-Err-clause-refused g c = λ e.
       refl,
       (
         says_refusal g.W.Disk.meaning g.O.Sink.meaning reading_rules (question.next_script) h.world.now c.next_first.new.world h.out.now so (so_far c.next_first.new.state) c.args._heap.now c.args._heap.now h.kept.now c.refuse.new.self c.in-Err.stop c.next_first.ensures.looks c.in-Err.ensures.cause (c.refuse.ensures.end is) (c.refuse.ensures.counted is)
-            (λ f s. kept_ends so nowhere None (?) c.in-Err.stop c.refuse.new.self.end some (?) (c.refuse.ensures.told is ∙ ap (λ site. Some (end_of site c.in-Err.stop)) c.in_ok-site.ensures)),
+            (λ f s. kept_ends so nowhere None (next_step f so c.args._heap.now) c.in-Err.stop c.refuse.new.self.end some (λ t. next_stops f so c.args._heap.now (untold_stop c.in-Err.stop) (c.in-Err.ensures.fault f s t)) (c.refuse.ensures.told is ∙ ap (λ site. Some (end_of site c.in-Err.stop)) c.in_ok-site.ensures)),
         extends_same c.args._heap.now,
       ),
     )

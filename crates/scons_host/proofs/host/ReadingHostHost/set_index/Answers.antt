@@ -1,21 +1,17 @@
 use Rattle.std.proofs.Common.{◌≡◌, ◌≢◌, ◌∙◌, Some, None, refl, sym, ap}
-use Rattle.std.proofs.Common.{Result, Ok}
-use Rattle.py_heap.specs.Heap.{Objects}
 use Rattle.py_host.specs.Calls as question
-use Rattle.scons_calls.specs.Results.{and_then}
-use Rattle.scons_host.specs.Asked.{set_item}
 use Rattle.scons_host.specs.Refusals.{of_refusal, told_by}
-use Rattle.scons_host.proofs.Scripting.{told_goes, refusal_untold}
 use Rattle.py_host.specs.declared.refusal.HostRefusal.TheVariants as refusal
 use Rattle.py_host.proofs.Extending.{extends_same}
 use Rattle.world_api.proofs.Looking.{files_same}
-use Rattle.scons_host.specs.ReadingRules.{told, nowhere, reading_rules}
+use Rattle.scons_host.specs.Looking.{refusal_stops}
+use Rattle.scons_host.specs.ReadingRules.{told, set_step, reading_rules}
 use Rattle.scons_host.specs.SayingLaws.{keeps_same, keeps_answered, keeps_refused}
 use Rattle.scons_host.specs.Seeing.{seen_of}
 use Rattle.scons_host.specs.SoFar.{so_far}
 use Rattle.scons_host.specs.Told.{end_of}
 use Rattle.scons_host.specs.declared.stop.Stop.TheVariants as stop
-use Rattle.scons_host.proofs.Turning.{kept_ends, says_answer, says_refusal}
+use Rattle.scons_host.proofs.Turning.{set_well, set_badly, kept_ends, says_answer, says_refusal}
 use Rattle.scons_host.proofs.host.ReadingHostHost.set_index.Goals as goal
 
 pub returns-in_err-site-clause-keeps : goal.returns-in_err-site-clause-keeps
@@ -38,7 +34,7 @@ returns-in-Ok-clause-ok g c =
       refl,
       (
         says_answer g.W.Disk.meaning g.O.Sink.meaning reading_rules (question.set_item c.args.place c.args.object.0 c.args.key c.args.value) h.world.now h.world.now h.out.now so (so_far c.set_item.new.state) c.args.heap.now c.args.heap.now h.kept.now tt (files_same g.W.Disk.meaning h.world.now) refl
-            (λ f s. ap (told so c.args.place None) (?)),
+            (λ f s. ap (told so c.args.place None) (set_well so (so_far c.set_item.new.state) c.args.heap.now c.args.place c.args.object.0 c.args.key c.args.value c.in-Ok.ensures.ok)),
         extends_same c.args.heap.now,
       ),
     )
@@ -51,8 +47,8 @@ returns-in-Err-clause-refused g c = λ e.
     let some : c.from.result ≢ stop.Memory = λ none. let short = c.refuse.ensures.untold none in cc in (
       refl,
       (
-        says_refusal g.W.Disk.meaning g.O.Sink.meaning reading_rules (question.set_item c.args.place c.args.object.0 c.args.key c.args.value) h.world.now h.world.now h.out.now so (so_far c.set_item.new.state) c.args.heap.now c.args.heap.now h.kept.now c.refuse.new.self c.from.result (files_same g.W.Disk.meaning h.world.now) (c.from.ensures_is) (c.refuse.ensures.end is) (c.refuse.ensures.counted is)
-            (λ f s. kept_ends so c.args.place None (told_by of_refusal (set_step so c.args.heap.now c.args.place c.args.object.0 c.args.key c.args.value)) c.from.result c.refuse.new.self.end some (?) (c.refuse.ensures.told is ∙ ap (λ site. Some (end_of site c.from.result)) c.in_ok-site.ensures)),
+        says_refusal g.W.Disk.meaning g.O.Sink.meaning reading_rules (question.set_item c.args.place c.args.object.0 c.args.key c.args.value) h.world.now h.world.now h.out.now so (so_far c.set_item.new.state) c.args.heap.now c.args.heap.now h.kept.now c.refuse.new.self c.from.result (files_same g.W.Disk.meaning h.world.now) (refusal_stops c.in-Err.refusal c.from.result c.from.ensures (g.W.Disk.meaning.counts h.world.now)) (c.refuse.ensures.end is) (c.refuse.ensures.counted is)
+            (λ f s. kept_ends so c.args.place None (told_by of_refusal (set_step so c.args.heap.now c.args.place c.args.object.0 c.args.key c.args.value)) c.from.result c.refuse.new.self.end some (set_badly so c.args.heap.now c.args.place c.args.object.0 c.args.key c.args.value c.in-Err.refusal c.from.result c.from.ensures c.in-Err.ensures.fault) (c.refuse.ensures.told is ∙ ap (λ site. Some (end_of site c.from.result)) c.in_ok-site.ensures)),
         extends_same c.args.heap.now,
       ),
     )
