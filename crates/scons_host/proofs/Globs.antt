@@ -1,5 +1,6 @@
 -- What Glob comes to, step by step.
 use Rattle.std.proofs.Common.{◌≡◌, ◌≢◌, ◌∙◌, ℕ, List, Result, Ok, Err, ap, sym}
+use Rattle.std.specs.Prelude.{IfErr, IsErrAnd}
 use Rattle.std.specs.List.{flat_map}
 use Rattle.py_heap.specs.declared.value.Value.{Value}
 use Rattle.py_heap.specs.Heap.{Objects}
@@ -17,7 +18,7 @@ use Rattle.scons_host.specs.Refusals.{of_name, of_refusal, told_by}
 use Rattle.scons_host.specs.Shown.{SamePaths, IsTold}
 use Rattle.scons_host.specs.SoFar.{SoFar}
 use Rattle.scons_host.proofs.Ordered.{among_same}
-use Rattle.scons_host.proofs.Refusing.{refusal_told}
+use Rattle.scons_host.proofs.Refusing.{told_exit}
 
 module _ (f : Files) (s : SoFar) (h : Objects) (env : ℕ) (pattern : List ℕ) where
   abbrev behind : Result (List (List ℕ)) Refusal → Step Value
@@ -32,10 +33,10 @@ module _ (f : Files) (s : SoFar) (h : Objects) (env : ℕ) (pattern : List ℕ) 
   glob_gives dirs files r looked same made = ap behind looked ∙ matched_same files (flat_map f.listed dirs) same ∙ made
 
   -- the faults of its steps are its own
-  pub glob_looks_nowhere : (r : Refusal) (e : Stop) → e ≡ of_refusal r → (r ≢ refusal.Memory → dirs_of s env pattern ≡ Err r) → IsTold e → told_by of_refusal (glob f s h env pattern) ≡ Err e
-  glob_looks_nowhere r e is gives told = refusal_told (glob f s h env pattern) r e is (λ m. ap behind (gives m)) told
+  pub glob_stops : {T : Type 0} (r : Refusal) (made : Result T Stop) → IsErrAnd made (λ e. e ≡ of_refusal r) → (r ≢ refusal.Memory → dirs_of s env pattern ≡ Err r) → IfErr made (λ e. IsTold e → told_by of_refusal (glob f s h env pattern) ≡ Err e)
+  glob_stops r made is gives = told_exit (glob f s h env pattern) r made is (λ m. ap behind (gives m))
 
-  pub glob_gives_none : (dirs files : List (List ℕ)) (r : Refusal) (e : Stop) → dirs_of s env pattern ≡ Ok dirs → SamePaths files (flat_map f.listed dirs) → e ≡ of_refusal r
-      → (r ≢ refusal.Memory → matched s h env pattern files ≡ Err r) → IsTold e → told_by of_refusal (glob f s h env pattern) ≡ Err e
-  glob_gives_none dirs files r e looked same is gives told =
-      refusal_told (glob f s h env pattern) r e is (λ m. glob_gives dirs files (let failed : Step Value = Err r in failed) looked same (gives m)) told
+  pub glob_stops_behind : {T : Type 0} (dirs files : List (List ℕ)) (r : Refusal) (made : Result T Stop) → dirs_of s env pattern ≡ Ok dirs → SamePaths files (flat_map f.listed dirs) → IsErrAnd made (λ e. e ≡ of_refusal r)
+      → (r ≢ refusal.Memory → matched s h env pattern files ≡ Err r) → IfErr made (λ e. IsTold e → told_by of_refusal (glob f s h env pattern) ≡ Err e)
+  glob_stops_behind dirs files r made looked same is gives =
+      told_exit (glob f s h env pattern) r made is (λ m. glob_gives dirs files (let failed : Step Value = Err r in failed) looked same (gives m))

@@ -1,5 +1,5 @@
 -- Paths in byte order: of lists with the same paths they are one list.
-use Rattle.std.proofs.Common.{◌≡◌, ◌∙◌, ℕ, List, [], ◌∷◌, ◌++◌, ◌||◌, Bool, true, false, cond, Option, Some, None, Result, Ok, Err, IfOk, IfErr, ◌≢◌, Contains, map, take, length, get_or, ◌+◌, ◌<◌, append-nil, arith, refl, sym, ap, subst, inl, inr}
+use Rattle.std.proofs.Common.{◌≡◌, ◌∙◌, ℕ, List, [], ◌∷◌, ◌++◌, ◌||◌, Bool, true, false, cond, Option, Some, None, Result, Ok, Err, IfOk, IfErr, ◌≢◌, Contains, map, take, length, get_or, ◌+◌, ◌<◌, ◌≤◌, append-nil, arith, refl, sym, ap, subst, inl, inr}
 use Rattle.std.specs.Cmp.{IsTotalOrder}
 use Rattle.std.specs.Cmp.Lexicographic.{slice_cmp, nat_list_cmp_total}
 use Rattle.std.specs.FinMap.{keys, entries, from_entries, entries-insert, get-from_entries, len-entries, len-empty, same_map, find, put, nat_cmp-IsAntisymmetric, slice_cmp-IsAntisymmetric}
@@ -12,16 +12,16 @@ use Rattle.std.specs.declared.cmp.Ordering.{Ordering}
 use Rattle.std.specs.declared.cmp.Ordering.TheVariants.{Less, Equal, Greater}
 use Rattle.std.proofs.lemmas.Cmp.{eq_by_cmp_equiv}
 use Rattle.std.proofs.lemmas.Grind.{flat_map-append}
-use Rattle.std.proofs.lemmas.List.{take_more}
+use Rattle.std.proofs.lemmas.List.{take_more, take_all}
 use Rattle.std.proofs.lemmas.List.Elements.{Contains-append_left, Contains-append_right, Contains-append_cases}
 use Rattle.std.proofs.lemmas.List.Folds.{list_any-append, Any-from_list_any, list_any-from_Any}
 use Rattle.std.proofs.lemmas.List.Kept.{IsStrictlySortedBy-dedup}
+use Rattle.std.proofs.lemmas.Map.Keys.{sorted_head, sorted_tail, IsDistinct-head, IsDistinct-tail}
 use Rattle.std.proofs.lemmas.Map.Text.{is_eq-slice_cmp}
 use Rattle.scons_decls.specs.declared.fault.NameFault.{NameFault}
 use Rattle.scons_decls.specs.declared.fault.NameFault.TheVariants as fault
 use Rattle.scons_decls.specs.declared.given.Given.{Given}
 use Rattle.scons_decls.specs.declared.given.Given.TheVariants.{File}
-use Rattle.scons_decls.specs.declared.glob.Search.{Search}
 use Rattle.scons_decls.specs.Globs.{search_of, source_of, found, targets_beside, meant_by, IsGlobbed}
 use Rattle.scons_decls.specs.State.{Declared}
 use Rattle.scons_decls.specs.Targets.{targets_in}
@@ -76,12 +76,10 @@ any_mapped : (test : List ℕ → Bool) (give : List ℕ → Option (List ℕ)) 
 any_mapped test give [] = refl
 any_mapped test give (x ∷ xs) = any_given test (give x) (filter_map give xs) ∙ ap (λ b. if_given test (give x) || b) (any_mapped test give xs)
 
--- so the same is meant among them
-any_meant : (d : Declared) (search : Search) (source : Option (List ℕ)) (xs ys : Paths) → SamePaths xs ys → (test : List ℕ → Bool) → list_any test (meant_by d search source xs) ≡ list_any test (meant_by d search source ys)
-any_meant d search source xs ys same test =
-    let give = found search source in
-    let there = targets_in d.made search.dir in
-    let beside = targets_beside d source in
+-- so the same is given by lists that have the same paths behind others
+any_behind : (give : List ℕ → Option (List ℕ)) (there beside xs ys : Paths) → SamePaths xs ys → (test : List ℕ → Bool)
+    → list_any test (filter_map give (there ++ (beside ++ xs))) ≡ list_any test (filter_map give (there ++ (beside ++ ys)))
+any_behind give there beside xs ys same test =
     let behind = paths_behind there there (beside ++ xs) (beside ++ ys) (paths_same there) (paths_behind beside beside xs ys (paths_same beside) same) in
     any_mapped test give (there ++ (beside ++ xs))
     ∙ any_same (there ++ (beside ++ xs)) (there ++ (beside ++ ys)) behind (λ x. if_given test (give x))
@@ -99,11 +97,11 @@ mark here = cond here (Some tt) None
 
 found_at : (q : List ℕ) (xs : Paths) → find order q (map alone xs) ≡ mark (list_any (eq_by_cmp order q) xs)
 found_at q [] = refl
-found_at q (x ∷ xs) = by (eq_by_cmp order q x)
+found_at q (x ∷ xs) = by (eq_by_cmp order q x) (found_at q xs)
   where
-    by : (here : Bool) → cond here (Some tt) (find order q (map alone xs)) ≡ mark (here || list_any (eq_by_cmp order q) xs)
-    by true = refl
-    by false = found_at q xs
+    by : (here : Bool) → find order q (map alone xs) ≡ mark (list_any (eq_by_cmp order q) xs) → cond here (Some tt) (find order q (map alone xs)) ≡ mark (here || list_any (eq_by_cmp order q) xs)
+    by true behind = refl
+    by false behind = behind
 
 -- the order of paths depends on which they are alone
 pub order_same : (xs ys : Paths) → ((q : List ℕ) → list_any (bytes_eq q) xs ≡ list_any (bytes_eq q) ys) → in_order xs ≡ in_order ys
@@ -128,9 +126,9 @@ pub order_is : (xs : Paths) → IsStrictlySortedBy order xs → in_order xs ≡ 
 order_is [] up = ap names (no_entries (entries (from_entries {R = order} [])) (sym (len-entries (from_entries {R = order} [])) ∙ len-empty order (Unit {0})))
 order_is (x ∷ xs) up =
     let m = from_entries {R = order} (map alone xs) in
-    let rest : names (entries m) ≡ xs = order_is xs up.1 in
+    let rest : names (entries m) ≡ xs = order_is xs (sorted_tail order x xs up) in
     ap names (entries-insert nat_list_cmp_total m x tt)
-    ∙ put_first x (entries m) (subst (AllByRecursion (λ y. order x y ≡ Less)) (sym rest) up.0)
+    ∙ put_first x (entries m) (subst (AllByRecursion (λ y. order x y ≡ Less)) (sym rest) (sorted_head order x xs up))
     ∙ ap (λ ys. x ∷ ys) rest
 
 turned : (x y : List ℕ) → bytes_eq x y ≡ false → bytes_eq y x ≡ false
@@ -139,7 +137,7 @@ turned x y other = sym (is_eq-slice_cmp y x) ∙ (eq_by_cmp_equiv nat_list_cmp_t
 apart : (x : List ℕ) (xs : Paths) → IsDistinct bytes_eq (x ∷ xs) → dedup_from bytes_eq x xs ≡ x ∷ xs
 apart x [] distinct = refl
 apart x (y ∷ ys) distinct =
-    ap (λ b. cond b (dedup_from bytes_eq x ys) (x ∷ dedup_from bytes_eq y ys)) (turned x y distinct.0.0) ∙ ap (λ zs. x ∷ zs) (apart y ys distinct.1)
+    ap (λ b. cond b (dedup_from bytes_eq x ys) (x ∷ dedup_from bytes_eq y ys)) (turned x y (IsDistinct-head bytes_eq x (y ∷ ys) distinct).0) ∙ ap (λ zs. x ∷ zs) (apart y ys (IsDistinct-tail bytes_eq x (y ∷ ys) distinct))
 
 all_apart : (xs : Paths) → IsDistinct bytes_eq xs → dedup bytes_eq xs ≡ xs
 all_apart [] distinct = refl
@@ -152,12 +150,22 @@ ascends xs sorted distinct =
 abbrev Nodes : Type 0
 Nodes = Result (List Given) NameFault
 
+then_ok : {X Y E : Type 0} (r : Result X E) (x : X) (f : X → Result Y E) → r ≡ Ok x → and_then r f ≡ f x
+then_ok r x f is = ap (λ s. and_then s f) is
+
+then_stop : {X Y E : Type 0} (r : Result X E) (e : E) (f : X → Result Y E) → r ≡ Err e → and_then r f ≡ Err e
+then_stop r e f is = ap (λ s. and_then s f) is
+
+then_same : {X Y E : Type 0} (r : Result X E) (f g : X → Result Y E) → ((x : X) → f x ≡ g x) → and_then r f ≡ and_then r g
+then_same (Ok x) f g same = same x
+then_same (Err e) f g same = refl
+
 -- what a pattern is found to mean is what it means
 pub globbed : (d : Declared) (env : ℕ) (pattern : List ℕ) (files : Paths) (nodes : List Given) → IsGlobbed d env pattern files nodes → nodes_among d env pattern files ≡ Ok nodes
 globbed d env pattern files nodes g =
     let meant = meant_by d g.search (source_of d g.search.dir) files in
     let is : in_order meant ≡ g.paths = sym (order_same g.paths meant g.meant) ∙ order_is g.paths (ascends g.paths g.sorted g.distinct) in
-    ap (λ (s : Result Search NameFault). and_then s (λ search. let r : Nodes = Ok (map File (in_order (meant_by d search (source_of d search.dir) files))) in r)) g.searched
+    then_ok (search_of d env pattern) g.search (λ search. let r : Nodes = Ok (map File (in_order (meant_by d search (source_of d search.dir) files))) in r) g.searched
     ∙ ap (λ paths. let r : Nodes = Ok (map File paths) in r) is
     ∙ ap (λ ns. let r : Nodes = Ok ns in r) (sym g.named)
 
@@ -168,17 +176,17 @@ all_globbed d env pattern files (Err e) g = tt
 pub none_globbed : (d : Declared) (env : ℕ) (pattern : List ℕ) (files : Paths) (made : Nodes) → IfErr made (λ e. e ≢ fault.Memory → search_of d env pattern ≡ Err e) → IfErr made (λ e. e ≢ fault.Memory → nodes_among d env pattern files ≡ Err e)
 none_globbed d env pattern files (Ok nodes) g = tt
 none_globbed d env pattern files (Err e) g = λ m.
-    ap (λ (s : Result Search NameFault). and_then s (λ search. let r : Nodes = Ok (map File (in_order (meant_by d search (source_of d search.dir) files))) in r)) (g m)
+    then_stop (search_of d env pattern) e (λ search. let r : Nodes = Ok (map File (in_order (meant_by d search (source_of d search.dir) files))) in r) (g m)
 
 -- and it is the same among the same files
 pub among_same : (d : Declared) (env : ℕ) (pattern : List ℕ) (xs ys : Paths) → SamePaths xs ys → nodes_among d env pattern xs ≡ nodes_among d env pattern ys
-among_same d env pattern xs ys same = by (search_of d env pattern)
-  where
-    by : (s : Result Search NameFault) → (let r : Nodes = and_then s (λ search. Ok (map File (in_order (meant_by d search (source_of d search.dir) xs)))) in r) ≡ and_then s (λ search. Ok (map File (in_order (meant_by d search (source_of d search.dir) ys))))
-    by (Ok search) =
-        let meant = λ (files : Paths). meant_by d search (source_of d search.dir) files in
-        ap (λ paths. let r : Nodes = Ok (map File paths) in r) (order_same (meant xs) (meant ys) (λ q. any_meant d search (source_of d search.dir) xs ys same (bytes_eq q)))
-    by (Err e) = refl
+among_same d env pattern xs ys same =
+    then_same (search_of d env pattern) (λ search. let r : Nodes = Ok (map File (in_order (meant_by d search (source_of d search.dir) xs))) in r)
+    (λ search. let r : Nodes = Ok (map File (in_order (meant_by d search (source_of d search.dir) ys))) in r)
+    (λ search.
+    let source = source_of d search.dir in
+    ap (λ paths. let r : Nodes = Ok (map File paths) in r) (order_same (meant_by d search source xs) (meant_by d search source ys)
+    (λ q. any_behind (found search source) (targets_in d.made search.dir) (targets_beside d source) xs ys same (bytes_eq q))))
 
 -- the paths of one directory more
 pub listed_more : (list : List ℕ → Paths) (files more all dirs : Paths) (i : ℕ) (dir : List ℕ) → i < length dirs → dir ≡ get_or dirs i dir → SamePaths files (flat_map list (take i dirs)) → SamePaths more (list dir) → all ≡ files ++ more → SamePaths all (flat_map list (take (i + 1) dirs))
@@ -188,3 +196,8 @@ listed_more list files more all dirs i dir within at here there is =
         ap (flat_map list) (take_more dirs i dir within) ∙ flat_map-append list (take i dirs) (get_or dirs i dir ∷ [])
         ∙ ap (λ ys. front ++ ys) (append-nil (list (get_or dirs i dir))) ∙ ap (λ d. front ++ list d) (sym at) in
     subst (λ xs. SamePaths xs (flat_map list (take (i + 1) dirs))) (sym is) (subst (SamePaths (files ++ more)) (sym e) (paths_behind files front more (list dir) here there))
+
+-- the paths of all of them
+pub listed_all : (list : List ℕ → Paths) (files all dirs : Paths) (i : ℕ) → length dirs ≤ i → all ≡ files → SamePaths files (flat_map list (take i dirs)) → SamePaths all (flat_map list dirs)
+listed_all list files all dirs i past is here =
+    subst (λ xs. SamePaths xs (flat_map list dirs)) (sym is) (subst (λ ds. SamePaths files (flat_map list ds)) (take_all i dirs past) here)

@@ -1,6 +1,6 @@
-use Rattle.std.proofs.Common.{◌∙◌}
+use Rattle.std.proofs.Common.{◌∙◌, arith}
 use Rattle.world_api.proofs.Looking.{files_joined}
-use Rattle.scons_host.proofs.Ordered.{listed_more, paths_same}
+use Rattle.scons_host.proofs.Ordered.{listed_more, listed_all}
 use Rattle.scons_host.proofs.Showing.{front, rest}
 use Rattle.scons_host.proofs.globbing.files_in.Goals as goal
 
@@ -23,5 +23,9 @@ loop-dir-preserved g c =
       same = c.in_ok-more.ensures.cause ∙ c.loop-dir.invariant.same;
       shown = λ f s.
           listed_more f.listed c.loop-dir.files.items c.in_ok-more.more.items c.append.new.self.items c.args.dirs.now c.loop-dir.dir-index c.dir-item.result
-          c.loop-dir.test c.dir-item.is (c.loop-dir.invariant.shown f (front m before between behind f on s)) (c.in_ok-more.ensures.shown f (rest m before between behind f there on s)) c.append.ensures.items;
+          (omega (arith, c.loop-dir-test.true)) c.dir-item.is (c.loop-dir.invariant.shown f (front m before between behind f on s)) (c.in_ok-more.ensures.shown f (rest m before between behind f there on s)) c.in_ok-append.ensures.items;
     }
+
+pub returns-clause-shown : goal.returns-clause-shown
+returns-clause-shown g c = λ f s.
+    listed_all f.listed c.loop-dir.files.items c.new.result c.args.dirs.now c.loop-dir.dir-index (omega (arith, c.loop-dir-test.false)) c.new.ensures (c.loop-dir.invariant.shown f s)
