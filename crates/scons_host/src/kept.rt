@@ -62,8 +62,13 @@ fn here(alloc: Global, site: Site, kind: ReadKind) -> Option<HostEnd>
     ensures own { IfSome result IsOwn }
     ensures memory { IfNone result (spec.TakesMemory kind) }
 {
-    match as_called(alloc, site.called.as_ref(), kind) {
-        Ok(kind) => Some(HostEnd::Reading(site.script, site.line, kind)),
+    let Site {
+        script,
+        line,
+        called,
+    } = site;
+    match as_called(alloc, called.as_ref(), kind) {
+        Ok(kind) => Some(HostEnd::Reading(script, line, kind)),
         Err(_) => None,
     }
 }
