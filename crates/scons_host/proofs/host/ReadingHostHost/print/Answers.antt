@@ -23,13 +23,13 @@ returns-in_err-site-in-Err-clause-keeps g c =
     let h = c.args.self.now in
     (refl, keeps_printed g.W.Disk.meaning g.O.Sink.meaning h.world.now h.out.now c.print.new.sink (so_far h.state.now) h.kept.now h.kept.now c.print.ensures.prints (omega arith))
 
-pub returns-in-Err-clause-keeps : goal.returns-in-Err-clause-keeps
-returns-in-Err-clause-keeps g c =
+pub returns-in_ok-site-in-Err-clause-keeps : goal.returns-in_ok-site-in-Err-clause-keeps
+returns-in_ok-site-in-Err-clause-keeps g c =
     let h = c.args.self.now in
     (refl, keeps_printed g.W.Disk.meaning g.O.Sink.meaning h.world.now h.out.now c.print.new.sink (so_far h.state.now) h.kept.now c.refuse.new.self c.print.ensures.prints c.refuse.ensures.later)
 
-pub returns-in-Err-clause-refused : goal.returns-in-Err-clause-refused
-returns-in-Err-clause-refused g c = λ e.
+pub returns-in_ok-site-in-Err-clause-refused : goal.returns-in_ok-site-in-Err-clause-refused
+returns-in_ok-site-in-Err-clause-refused g c = λ e.
     let h = c.args.self.now in
     let is : c.refuse.result ≡ refusal.Host = cc in
     (refl, record {

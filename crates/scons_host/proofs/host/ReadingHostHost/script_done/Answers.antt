@@ -11,7 +11,7 @@ use Rattle.scons_host.specs.ReadingRules.{told, nowhere, reading_rules}
 use Rattle.scons_host.specs.SayingLaws.{keeps_same, keeps_answered, keeps_refused}
 use Rattle.scons_host.specs.Seeing.{seen_of}
 use Rattle.scons_host.specs.SoFar.{so_far}
-use Rattle.scons_host.specs.Told.{end_of}
+use Rattle.scons_host.specs.Told.{site_at, end_of}
 use Rattle.scons_host.specs.declared.stop.Stop.TheVariants as stop
 use Rattle.scons_host.proofs.Turning.{kept_ends, says_answer, says_refusal}
 use Rattle.scons_host.proofs.host.ReadingHostHost.script_done.Goals as goal
@@ -50,7 +50,7 @@ returns-in-Err-clause-refused g c = λ e.
       refl,
       (
         says_refusal g.W.Disk.meaning g.O.Sink.meaning reading_rules (question.script_done c.args._names.now) h.world.now c.script_done.new.world h.out.now so (so_far c.script_done.new.state) c.args.heap.now c.script_done.new.heap h.kept.now c.refuse.new.self c.in-Err.stop c.script_done.ensures.looks c.in-Err.ensures.cause (c.refuse.ensures.end is) (c.refuse.ensures.counted is)
-            (λ f s. kept_ends so (place_in (innermost so)) None (script_done f so c.args.heap.now) c.in-Err.stop c.refuse.new.self.end some (c.in-Err.ensures.fault f s) (c.refuse.ensures.told is ∙ ap (λ site. Some (end_of site c.in-Err.stop)) c.in_ok-site.ensures)),
+            (λ f s. kept_ends so (place_in (innermost so)) None (script_done f so c.args.heap.now) c.in-Err.stop c.refuse.new.self.end some (c.in-Err.ensures.fault f s) (c.refuse.ensures.told is ∙ ap (λ site. Some (end_of site c.in-Err.stop)) (c.in_ok-site.ensures ∙ ap (λ place. site_at so place None) c.place_of.ensures))),
         c.script_done.ensures.stands,
       ),
     )
