@@ -1,9 +1,8 @@
 -- Bytes have one form.
-use Rattle.std.proofs.Common.{◌≡◌, ◌∙◌, ℕ, List, [], Result, Ok, Err, refl, sym, ap, subst}
+use Rattle.std.proofs.Common.{◌≡◌, ◌∙◌, ℕ, List, [], Ok, Err, ap, subst}
 use Rattle.py_token.specs.declared.token.Token.{Token}
-use Rattle.py_tree.specs.Tree.{Tree}
 use Rattle.py_lex.specs.declared.fault.LexKind.{LexKind}
-use Rattle.py_lex.specs.Lexes.{Outcome, lexed, faulty, Lexes, FaultAt, IsRead}
+use Rattle.py_lex.specs.Lexes.{lexed, faulty, Lexes, FaultAt}
 use Rattle.py_lex.proofs.One.{IsRead-one}
 use Rattle.py_parse.specs.declared.fault.ParseKind.{ParseKind}
 use Rattle.py_parse.specs.Parses.{Parses}

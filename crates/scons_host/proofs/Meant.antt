@@ -1,10 +1,10 @@
 -- What scripts come to over a host that says its answers by rules, they come to over the plain host of those rules, unless the outside
 -- was at fault.
-use Rattle.std.proofs.Common.{◌≡◌, ◌⊎◌, ℕ, List, Option, Some, None, Result, Ok, Err, refl, sym, subst, inl, inr}
+use Rattle.std.proofs.Common.{◌≡◌, ℕ, List, Option, Some, None, Result, Ok, Err, refl, sym, subst, inl, inr}
 use Rattle.py_tree.specs.Tree.{Tree}
 use Rattle.py_heap.specs.Heap.{Objects}
 use Rattle.py_heap.specs.Units.{Units}
-use Rattle.py_host.specs.Calls.{Question, Answer, Answered, answers, refuses}
+use Rattle.py_host.specs.Calls.{answers, refuses}
 use Rattle.py_host.specs.Meaning.{Meaning, IsKept}
 use Rattle.py_host.proofs.Extending.{extends_same}
 use Rattle.py_meaning.specs.declared.fault.EvalKind.{EvalKind}
@@ -14,7 +14,7 @@ use Rattle.py_meaning.specs.Plans.{Plan}
 use Rattle.py_meaning.specs.Evaluates.{Evaluates, Follows, IsOwn, done, stopped, then, then_stopped, too_deep, called, called_stopped, named, printed, print_refused, asked, refused}
 use Rattle.py_meaning.proofs.Counting as counting
 use Rattle.scons_host.specs.Turns.{Turn, Rules, answers_with, ends_with}
-use Rattle.scons_host.specs.Plain.{Plain, in_state, with_printed, ended, Answers, Takes, plain}
+use Rattle.scons_host.specs.Plain.{Plain, in_state, ended, Answers, plain}
 use Rattle.scons_host.specs.Says.{IsFrom, Ends, Says, IsEnd, ComesBy, Comes}
 
 -- what comes of more that is read

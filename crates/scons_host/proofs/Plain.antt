@@ -1,16 +1,15 @@
 -- The plain host keeps what every host keeps to, and answers in one way.
-use Rattle.std.proofs.Common.{arith, ◌≡◌, ◌≤◌, ◌+◌, ◌∙◌, ℕ, Option, Result, refl, sym, ap, subst, inl}
-use Rattle.scons_base.specs.Rising.{Rose}
+use Rattle.std.proofs.Common.{arith, ◌≡◌, ◌≤◌, ◌+◌, ◌∙◌, Result, refl, sym, ap, subst, inl}
 use Rattle.py_tree.specs.Tree.{Tree}
 use Rattle.py_heap.specs.Heap.{Objects}
 use Rattle.py_heap.specs.Units.{Units}
-use Rattle.py_host.specs.Calls.{Question, Answer, Answered, answers, refuses}
+use Rattle.py_host.specs.Calls.{Answered, answers, refuses}
 use Rattle.py_host.specs.Meaning.{IsKept, IsDetermined, Counts, SameUnlessEscaped}
 use Rattle.py_meaning.specs.Evaluates.{Evaluates}
 use Rattle.py_meaning.specs.States.{Out, Fault}
 use Rattle.py_meaning.proofs.One.{one}
 use Rattle.scons_host.specs.Turns.{Turn, Rules, answers_with, ends_with}
-use Rattle.scons_host.specs.Plain.{Plain, in_state, with_printed, ended, Answers, Takes, plain}
+use Rattle.scons_host.specs.Plain.{Plain, Answers, Takes, plain}
 
 answered_later : {S E X : Type 0} (t : Turn S E X) (h k : Plain S E) (o p : Objects) (a : Answered X) → Answers t h o a k p → (h.refusals ≤ k.refusals) × Counts a h.refusals k.refusals
 answered_later (answers_with x s o2) h k o p (answers y) w =

@@ -1,13 +1,10 @@
 -- The host that answers by rules says its answers by them.
-use Rattle.std.specs.Prelude.{Contains, IsSome, Option}
-use Rattle.std.proofs.Common.{arith, ◌≡◌, ◌≤◌, ◌<◌, ◌∙◌, ◌++◌, ℕ, List, [], length, refl, sym, ap, subst}
-use Rattle.scons_base.specs.Parts.{dir_of}
-use Rattle.py_heap.specs.Heap.{Objects}
+use Rattle.std.specs.Prelude.{IsSome}
+use Rattle.std.proofs.Common.{arith, ◌≡◌, ◌<◌, ◌∙◌, ◌++◌, ℕ, List, [], length, sym, ap, subst}
 use Rattle.world_api.specs.Around.{Around, Running, IsRunningTarget}
 use Rattle.world_api.specs.Calls.{Asks}
 use Rattle.world_api.specs.Meaning.{Meaning}
 use Rattle.world_api.specs.Printed.{SinkMeaning}
-use Rattle.world_api.specs.Reads.{IsListing}
 use Rattle.scons_host.specs.declared.end.HostEnd.{HostEnd}
 use Rattle.scons_host.specs.declared.kept.Kept.{Kept}
 use Rattle.scons_host.specs.Files.{Files, Shows}
@@ -15,7 +12,7 @@ use Rattle.scons_host.specs.Untold.{untold_if}
 use Rattle.scons_host.specs.Plain.{Plain, in_state, with_printed}
 use Rattle.scons_host.specs.Says as rules
 use Rattle.scons_host.specs.Saying.{Seen, Sees, Keeps, Serves, Printed, IsOutside, plain_of, saying}
-use Rattle.scons_host.specs.Turns.{Turn, Rules}
+use Rattle.scons_host.specs.Turns.{Rules}
 
 none_runs : (running : List Running) (path : List ℕ) → running ≡ [] → IsRunningTarget running path → ⊥
 none_runs running path none w =

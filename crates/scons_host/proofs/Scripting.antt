@@ -1,5 +1,5 @@
 -- Scripts that begin and end, as the code finds, reads and refuses them.
-use Rattle.std.proofs.Common.{arith, ◌≡◌, ◌≢◌, ◌∙◌, ◌≤◌, ◌<◌, ◌+◌, ◌-◌, ℕ, suc, List, [], ◌∷◌, ◌++◌, Option, Some, None, Result, Ok, Err, map, drop, take, length, get_or, refl, sym, ap, subst, add-one, drop-cons}
+use Rattle.std.proofs.Common.{arith, ◌≡◌, ◌≢◌, ◌∙◌, ◌≤◌, ◌<◌, ◌+◌, ◌-◌, ℕ, suc, List, ◌∷◌, ◌++◌, Option, Some, None, Result, Ok, Err, map, drop, take, length, get_or, sym, ap, subst, add-one, drop-cons}
 use Rattle.std.specs.Prelude.{slice_get, MatchOption, option_to_list, IfOk, IfErr, IsErrAnd}
 use Rattle.std.specs.Option.{option_map}
 use Rattle.std.proofs.lemmas.List.{length-map, take-map, drop_all}

@@ -1,6 +1,6 @@
 -- What a look at the files tells of them, from what the world promises; and what one look tells beside others.
-use Rattle.std.proofs.Common.{◌≡◌, ◌∙◌, ◌≤◌, ◌<◌, ℕ, List, [], Bool, true, false, Option, Some, None, Result, Ok, Err, IfOk, IfErr, OnOk, Contains, length, cond, refl, sym, ap, subst}
-use Rattle.std.specs.Prelude.{IfSome, nat_lt, if◌then◌else◌}
+use Rattle.std.proofs.Common.{◌≡◌, ◌∙◌, ◌≤◌, ◌<◌, ℕ, List, Bool, true, false, Option, Some, None, Result, Ok, Err, IfOk, IfErr, length, refl, sym, ap, subst}
+use Rattle.std.specs.Prelude.{IfSome, if◌then◌else◌}
 use Rattle.std.specs.Option.{is_some}
 use Rattle.std.proofs.lemmas.Bool.{le-ltb, lt-ltb}
 use Rattle.world_api.specs.declared.refusal.ReadRefusal.{ReadRefusal}

@@ -1,11 +1,11 @@
 -- What the host answers over a world is the turn of its question, and what it keeps of a refusal is the end of the turn.
-use Rattle.std.proofs.Common.{◌≡◌, ◌⊎◌, ◌∙◌, ◌≢◌, ℕ, Option, Some, None, Result, Ok, Err, refl, sym, ap, subst, inl, inr}
+use Rattle.std.proofs.Common.{◌≡◌, ◌∙◌, ◌≢◌, ℕ, Option, Some, Ok, Err, refl, sym, ap, subst, inl, inr}
 use Rattle.scons_base.specs.Rising.{Rose}
 use Rattle.py_tree.specs.Tree.{Tree}
 use Rattle.py_heap.specs.declared.ids.HostId.{HostId}
 use Rattle.py_heap.specs.declared.value.Value.{Value}
 use Rattle.py_heap.specs.Heap.{Objects}
-use Rattle.py_host.specs.Calls.{Question, Answer, Answered, answers, refuses}
+use Rattle.py_host.specs.Calls.{Question, Answer, answers, refuses}
 use Rattle.py_host.specs.declared.place.Place.{Place}
 use Rattle.world_api.specs.Looks.{LooksAtFiles}
 use Rattle.world_api.specs.Meaning.{Meaning}
@@ -27,7 +27,7 @@ use Rattle.scons_host.specs.Laws.{kept_caused}
 use Rattle.scons_host.specs.ReadingRules.{told, set_step, next_step}
 use Rattle.scons_host.specs.Refusals.{of_refusal, told_by}
 use Rattle.scons_host.specs.Says.{Ends}
-use Rattle.scons_host.specs.Saying.{Seen, Sees, IsOutside, Says}
+use Rattle.scons_host.specs.Saying.{Sees, IsOutside, Says}
 use Rattle.scons_host.specs.Scripts.{Look, next_first}
 use Rattle.scons_host.specs.Shown.{Stands, Shown, IsTold}
 use Rattle.scons_host.specs.SoFar.{SoFar}

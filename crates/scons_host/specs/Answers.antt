@@ -1,5 +1,5 @@
 -- What calls are answered that are declared, and what Split and Flatten are, as values: scons(1), "SCons Functions".
-use Rattle.std.specs.Prelude.{ℕ, Bool, true, false, List, [], ◌∷◌, Option, Some, None, Result, Ok, Err, codes, length, ◌==◌, if◌then◌else◌}
+use Rattle.std.specs.Prelude.{ℕ, Bool, true, false, List, [], ◌∷◌, Option, Some, None, Ok, codes, length, ◌==◌}
 use Rattle.py_text.specs.Splitting.{words_of}
 use Rattle.py_heap.specs.declared.value.Value.{Value}
 use Rattle.py_heap.specs.declared.value.Value.TheVariants as v

@@ -1,5 +1,5 @@
 -- Attributes and items of objects: scons(1), "Construction Environments" and "File and Directory Nodes".
-use Rattle.std.specs.Prelude.{ℕ, Bool, List, ◌∷◌, ◌++◌, Option, Some, None, Result, Ok, Err, codes, is_some, slice_get, if◌then◌else◌}
+use Rattle.std.specs.Prelude.{ℕ, Bool, List, ◌∷◌, ◌++◌, Option, Some, None, Result, Ok, Err, codes, slice_get, if◌then◌else◌}
 use Rattle.std.specs.Option.{ok_or, option_map}
 use Rattle.std.specs.Str.{bytes_eq}
 use Rattle.scons_base.specs.declared.ids.EnvId.{EnvId}
@@ -28,7 +28,7 @@ use Rattle.scons_calls.specs.LeftOut.{is_attribute_left_out}
 use Rattle.scons_calls.specs.Names.{name_of_method}
 use Rattle.scons_calls.specs.Results.{and_then, along}
 use Rattle.scons_calls.specs.Things.{Things, numbered, number_named}
-use Rattle.scons_calls.specs.Values.{Made, given_alone, variable_value}
+use Rattle.scons_calls.specs.Values.{Made, variable_value}
 use Rattle.scons_calls.specs.Variables.{builder_by, variable_by}
 use Rattle.scons_host.specs.declared.asked.Subject.{Subject}
 use Rattle.scons_host.specs.declared.asked.Subject.TheVariants as subject

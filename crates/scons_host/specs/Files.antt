@@ -1,6 +1,6 @@
 -- What a reading sees of the files: what stands in the tree, what lies in a directory, and what the bytes of a script are. A world shows
 -- them while nothing runs.
-use Rattle.std.specs.Prelude.{◌≡◌, ℕ, List, [], Option, Contains}
+use Rattle.std.specs.Prelude.{◌≡◌, ℕ, List, Option}
 use Rattle.world_api.specs.Around.{Around}
 use Rattle.world_api.specs.Reads.{IsListing}
 use Rattle.scons_host.specs.Forms.{Form, TellsForms}

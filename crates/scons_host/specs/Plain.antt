@@ -1,8 +1,7 @@
 -- A host that answers by rules over files that stay, and prints on a text that takes all. It is the measure of what a reading gives.
 use Rattle.std.specs.Prelude.{◌≡◌, ◌≤◌, ◌+◌, ◌++◌, ℕ, List, Option, Some}
-use Rattle.py_heap.specs.declared.value.Value.{Value}
 use Rattle.py_heap.specs.Heap.{Objects}
-use Rattle.py_host.specs.Calls.{Question, Answer, Answered, answers, refuses}
+use Rattle.py_host.specs.Calls.{Answered, answers, refuses}
 use Rattle.py_host.specs.Extends.{Extends}
 use Rattle.py_host.specs.Meaning.{Meaning}
 use Rattle.scons_host.specs.Turns.{Turn, Rules, answers_with, ends_with}

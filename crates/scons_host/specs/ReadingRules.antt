@@ -1,5 +1,5 @@
 -- What scripts are answered while they are read, over plain files: each question by its function, and the end that a stop is.
-use Rattle.std.specs.Prelude.{ℕ, Option, Some, None, Result, Ok, Err}
+use Rattle.std.specs.Prelude.{ℕ, Option, Some, None, Ok, Err}
 use Rattle.py_tree.specs.Tree.{Tree}
 use Rattle.py_heap.specs.declared.ids.HostId.{HostId}
 use Rattle.py_heap.specs.declared.value.Value.{Value}
@@ -9,7 +9,6 @@ use Rattle.py_host.specs.Calls as question
 use Rattle.py_host.specs.declared.place.Place.{Place}
 use Rattle.scons_calls.specs.Results.{and_then}
 use Rattle.scons_host.specs.declared.end.HostEnd.{HostEnd}
-use Rattle.scons_host.specs.declared.stop.Stop.{Stop}
 use Rattle.scons_host.specs.Asked.{Step, name_in, attribute, item, set_item}
 use Rattle.scons_host.specs.Calling.{call}
 use Rattle.scons_host.specs.Files.{Files}

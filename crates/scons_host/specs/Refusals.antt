@@ -1,5 +1,5 @@
 -- The faults of the layers below, as refusals of a line of a script.
-use Rattle.std.specs.Prelude.{ℕ, List, Option, Result, Ok, Err, codes, unwrap_or}
+use Rattle.std.specs.Prelude.{ℕ, List, Result, Ok, Err, codes, unwrap_or}
 use Rattle.py_heap.specs.Heap.{Objects, shown_of}
 use Rattle.py_heap.specs.declared.fault.ValueFault.{ValueFault}
 use Rattle.py_heap.specs.declared.fault.ValueFault.TheVariants as value
@@ -8,7 +8,6 @@ use Rattle.scons_decls.specs.declared.fault.NameFault.{NameFault}
 use Rattle.scons_decls.specs.declared.fault.NameFault.TheVariants as name
 use Rattle.scons_calls.specs.declared.fault.CallFault.{CallFault}
 use Rattle.scons_calls.specs.declared.fault.CallFault.TheVariants as call
-use Rattle.scons_host.specs.declared.end.ReadKind.{ReadKind}
 use Rattle.scons_host.specs.declared.end.ReadKind.TheVariants as read
 use Rattle.scons_host.specs.declared.stop.Refusal.{Refusal}
 use Rattle.scons_host.specs.declared.stop.Refusal.TheVariants.{Kind, Memory}

@@ -1,8 +1,7 @@
 -- What the host over a world and a sink means by rules: each answer is a turn of them, for any files that show what stands around. It
 -- says so where the world and the sink tell, and nothing runs.
-use Rattle.std.specs.Prelude.{◌≡◌, ◌≤◌, ◌++◌, ℕ, List, [], Option}
+use Rattle.std.specs.Prelude.{◌≡◌, ◌≤◌, ◌++◌, ℕ, List, []}
 use Rattle.scons_base.specs.Rising.{Rose}
-use Rattle.py_heap.specs.declared.value.Value.{Value}
 use Rattle.py_heap.specs.Heap.{Objects}
 use Rattle.py_host.specs.Calls.{Question, Answer, Answered, answers, refuses}
 use Rattle.py_host.specs.Extends.{Extends}
@@ -19,7 +18,7 @@ use Rattle.scons_host.specs.Untold.{untold_if}
 use Rattle.scons_host.specs.Plain.{Plain}
 use Rattle.scons_host.specs.Prints.{Prints}
 use Rattle.scons_host.specs.Says.{IsFrom, Ends}
-use Rattle.scons_host.specs.Turns.{Turn, Rules, answers_with}
+use Rattle.scons_host.specs.Turns.{Rules, answers_with}
 
 -- what is seen of a host: its world, its sink, what was read so far, and what it keeps of a refusal
 pub record Seen (W O S : Type 0) : Type 0 where

@@ -1,6 +1,5 @@
 -- The host that answers by rules keeps what every host keeps to.
-use Rattle.std.proofs.Common.{arith, ◌≡◌, ◌≤◌, ◌∙◌, ℕ, List, refl, sym, ap, subst}
-use Rattle.scons_base.specs.Rising.{Rose}
+use Rattle.std.proofs.Common.{arith, ◌≡◌, ◌≤◌, ℕ, List, sym, ap, subst}
 use Rattle.py_heap.specs.Heap.{Objects}
 use Rattle.py_host.specs.Calls.{Question, Answer, Answered, answers, refuses}
 use Rattle.py_host.specs.Meaning.{IsKept, IsDetermined}

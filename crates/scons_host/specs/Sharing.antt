@@ -1,6 +1,6 @@
 -- What scripts share: scons(1) under Export, Import and Return.
-use Rattle.std.specs.Prelude.{ℕ, ◌-◌, List, [], ◌∷◌, Option, Some, None, Result, Ok, Err, codes, length, slice_get, slice_set, if◌then◌else◌}
-use Rattle.std.specs.Option.{ok_or, option_or, option_map_or}
+use Rattle.std.specs.Prelude.{ℕ, ◌-◌, List, [], ◌∷◌, Option, Some, None, Result, Ok, codes, length, slice_get, slice_set, if◌then◌else◌}
+use Rattle.std.specs.Option.{ok_or, option_or}
 use Rattle.std.specs.Str.{bytes_eq}
 use Rattle.py_heap.specs.declared.value.Value.{Value}
 use Rattle.py_heap.specs.Given.{given_tuple}

@@ -1,4 +1,4 @@
-use Rattle.std.proofs.Common.{arith, ◌<◌, ◌-◌, get_or, length}
+use Rattle.std.proofs.Common.{arith, ◌-◌, get_or, length}
 use Rattle.std.proofs.lemmas.Option.{slice_get-get_or}
 use Rattle.scons_host.proofs.Keeping.{last_returned}
 use Rattle.scons_host.proofs.scopes.set_returned.Goals as goal

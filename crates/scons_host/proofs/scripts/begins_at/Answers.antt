@@ -1,4 +1,4 @@
-use Rattle.std.proofs.Common.{◌≡◌, ◌∙◌, Err, Result, sym, ap}
+use Rattle.std.proofs.Common.{◌∙◌, Err, Result, sym, ap}
 use Rattle.py_tree.specs.Tree.{Tree}
 use Rattle.scons_host.specs.Scripts.{begins, begins_at}
 use Rattle.scons_host.specs.SoFar.{SoFar, so_far}

@@ -1,4 +1,4 @@
-use Rattle.std.proofs.Common.{◌≡◌, ◌∙◌, ◌-◌, refl, ap, take}
+use Rattle.std.proofs.Common.{◌∙◌, ◌-◌, refl, ap, take}
 use Rattle.scons_host.specs.SoFar.{so_far}
 use Rattle.scons_host.proofs.Scripting.{last_is, call_popped}
 use Rattle.scons_host.proofs.scripts.call_taken.Goals as goal

@@ -1,4 +1,4 @@
-use Rattle.std.proofs.Common.{◌≡◌, List, ap, sym, drop}
+use Rattle.std.proofs.Common.{List, ap, sym, drop}
 use Rattle.std.specs.Prelude.{slice_get}
 use Rattle.scons_decls.specs.declared.given.Given.{Given}
 use Rattle.scons_host.specs.SoFar.{Waiting, waiting_of}

@@ -1,4 +1,4 @@
-use Rattle.std.proofs.Common.{◌≡◌, ℕ, List, ap, sym, drop}
+use Rattle.std.proofs.Common.{ℕ, List, ap, sym, drop}
 use Rattle.std.specs.Prelude.{slice_get}
 use Rattle.scons_host.specs.SoFar.{SoFar, so_far}
 use Rattle.scons_host.proofs.Scripting.{pair_is, first_is}

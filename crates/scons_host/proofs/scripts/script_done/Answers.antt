@@ -1,4 +1,4 @@
-use Rattle.std.proofs.Common.{◌≡◌, ◌∙◌, Ok, Err, refl, sym, ap}
+use Rattle.std.proofs.Common.{◌≡◌, ◌∙◌, Err, refl, sym, ap}
 use Rattle.py_host.specs.Calls.{given_of}
 use Rattle.scons_host.specs.Scripts.{go_on, call_taken, script_done}
 use Rattle.scons_host.specs.declared.stop.Stop.TheVariants as stop

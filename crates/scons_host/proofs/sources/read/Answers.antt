@@ -1,4 +1,3 @@
-use Rattle.std.proofs.Common.{◌≡◌}
 use Rattle.scons_base.specs.declared.limits.TheConstants.{SCRIPT_LIMIT}
 use Rattle.scons_host.specs.Scripts.{stop_at}
 use Rattle.scons_host.specs.Shown.{read_within}

@@ -1,13 +1,12 @@
-use Rattle.std.proofs.Common.{◌≡◌, ◌≢◌, ◌∙◌, Some, None, refl, sym, ap}
+use Rattle.std.proofs.Common.{◌≡◌, ◌≢◌, ◌∙◌, Some, None, refl, ap}
 use Rattle.py_host.specs.Calls as question
 use Rattle.scons_host.specs.Asked.{item}
 use Rattle.scons_host.specs.Refusals.{of_refusal, told_by}
 use Rattle.scons_host.proofs.Scripting.{told_goes, refusal_untold}
 use Rattle.py_host.specs.declared.refusal.HostRefusal.TheVariants as refusal
-use Rattle.py_host.proofs.Extending.{extends_same}
 use Rattle.world_api.proofs.Looking.{files_same}
 use Rattle.scons_host.specs.Looking.{refusal_stops}
-use Rattle.scons_host.specs.ReadingRules.{told, nowhere, reading_rules}
+use Rattle.scons_host.specs.ReadingRules.{told, reading_rules}
 use Rattle.scons_host.specs.SayingLaws.{keeps_same, keeps_answered, keeps_refused}
 use Rattle.scons_host.specs.Seeing.{seen_of}
 use Rattle.scons_host.specs.SoFar.{so_far}

@@ -1,6 +1,5 @@
-use Rattle.std.proofs.Common.{◌≡◌, ◌∙◌, Some, refl, arith, sym, ap, subst}
+use Rattle.std.proofs.Common.{◌≡◌, refl, arith, sym, subst}
 use Rattle.py_host.specs.declared.refusal.HostRefusal.TheVariants as refusal
-use Rattle.world_api.proofs.Looking.{files_same}
 use Rattle.scons_host.specs.Laws.{unprinted_caused}
 use Rattle.scons_host.specs.Says.{IsFrom}
 use Rattle.scons_host.specs.Saying.{IsOutside}
@@ -31,11 +30,13 @@ returns-in_ok-site-in-Err-clause-keeps g c =
 pub returns-in_ok-site-in-Err-clause-refused : goal.returns-in_ok-site-in-Err-clause-refused
 returns-in_ok-site-in-Err-clause-refused g c = λ e.
     let h = c.args.self.now in
-    let is : c.refuse.result ≡ refusal.Host = cc in
-    (refl, record {
-      world = refl;
-      prints = c.print.ensures.prints;
-      counted = c.refuse.ensures.counted is;
-      cause = unprinted_caused (g.W.Disk.meaning.counts h.world.now) (g.O.Sink.meaning.faults h.out.now) (g.O.Sink.meaning.faults c.print.new.sink) c.refuse.new.self.end (c.refuse.ensures.end is) c.in-Err.ensures.rose;
-      end = subst (λ k. IsFrom IsOutside (untold_if k)) (sym (c.refuse.ensures.told is)) tt;
-    })
+    let is : c.refuse.result ≡ refusal.Host = cc in (
+      refl,
+      record {
+        world = refl;
+        prints = c.print.ensures.prints;
+        counted = c.refuse.ensures.counted is;
+        cause = unprinted_caused (g.W.Disk.meaning.counts h.world.now) (g.O.Sink.meaning.faults h.out.now) (g.O.Sink.meaning.faults c.print.new.sink) c.refuse.new.self.end (c.refuse.ensures.end is) c.in-Err.ensures.rose;
+        end = subst (λ k. IsFrom IsOutside (untold_if k)) (sym (c.refuse.ensures.told is)) tt;
+      },
+    )

@@ -1,13 +1,11 @@
-use Rattle.std.proofs.Common.{◌≡◌, ◌≢◌, ◌∙◌, Some, None, refl, sym, ap}
+use Rattle.std.proofs.Common.{◌≡◌, ◌≢◌, ◌∙◌, Some, None, refl, ap}
 use Rattle.py_host.specs.Calls.{given_of}
 use Rattle.py_host.specs.Calls as question
 use Rattle.scons_host.specs.ReadingRules.{place_in}
 use Rattle.scons_host.specs.Scripts.{script_done}
 use Rattle.scons_host.specs.Sharing.{innermost}
 use Rattle.py_host.specs.declared.refusal.HostRefusal.TheVariants as refusal
-use Rattle.py_host.proofs.Extending.{extends_same}
-use Rattle.world_api.proofs.Looking.{files_same}
-use Rattle.scons_host.specs.ReadingRules.{told, nowhere, reading_rules}
+use Rattle.scons_host.specs.ReadingRules.{told, reading_rules}
 use Rattle.scons_host.specs.SayingLaws.{keeps_same, keeps_answered, keeps_refused}
 use Rattle.scons_host.specs.Seeing.{seen_of}
 use Rattle.scons_host.specs.SoFar.{so_far}

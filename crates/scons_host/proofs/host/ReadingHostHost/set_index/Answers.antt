@@ -1,4 +1,4 @@
-use Rattle.std.proofs.Common.{◌≡◌, ◌≢◌, ◌∙◌, Some, None, refl, sym, ap}
+use Rattle.std.proofs.Common.{◌≡◌, ◌≢◌, ◌∙◌, Some, None, refl, ap}
 use Rattle.py_host.specs.Calls as question
 use Rattle.scons_host.specs.Refusals.{of_refusal, told_by}
 use Rattle.py_host.specs.declared.refusal.HostRefusal.TheVariants as refusal
