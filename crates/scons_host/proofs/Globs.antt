@@ -13,7 +13,7 @@ use Rattle.scons_host.specs.declared.stop.Refusal.TheVariants as refusal
 use Rattle.scons_host.specs.declared.stop.Stop.{Stop}
 use Rattle.scons_host.specs.Asked.{Step, put_in}
 use Rattle.scons_host.specs.Files.{Files}
-use Rattle.scons_host.specs.Globbing.{nodes_among, matched, dirs_of, glob}
+use Rattle.scons_host.specs.Globbing.{matched, dirs_of, glob}
 use Rattle.scons_host.specs.Refusals.{of_name, of_refusal, told_by}
 use Rattle.scons_host.specs.Shown.{SamePaths, IsTold}
 use Rattle.scons_host.specs.SoFar.{SoFar}

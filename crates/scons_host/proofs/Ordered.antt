@@ -1,20 +1,19 @@
 -- Paths in byte order: of lists with the same paths they are one list.
 use Rattle.std.proofs.Common.{◌≡◌, ◌∙◌, ℕ, List, [], ◌∷◌, ◌++◌, ◌||◌, Bool, true, false, cond, Option, Some, None, Result, Ok, Err, IfOk, IfErr, ◌≢◌, Contains, map, take, length, get_or, ◌+◌, ◌<◌, ◌≤◌, append-nil, arith, refl, sym, ap, subst, inl, inr}
-use Rattle.std.specs.Cmp.{IsTotalOrder}
 use Rattle.std.specs.Cmp.Lexicographic.{slice_cmp, nat_list_cmp_total}
 use Rattle.std.specs.FinMap.{keys, entries, from_entries, entries-insert, get-from_entries, len-entries, len-empty, same_map, find, put, nat_cmp-IsAntisymmetric, slice_cmp-IsAntisymmetric}
 use Rattle.std.specs.FinMap.Entries.{by_order}
-use Rattle.std.specs.List.{list_any, filter_map, cons_option, flat_map, dedup, dedup_from, IsDistinct, AllByRecursion, Any}
+use Rattle.std.specs.List.{list_any, filter_map, cons_option, flat_map, dedup, dedup_from, IsDistinct, AllByRecursion}
 use Rattle.std.specs.List.Sorted.{IsSorted, IsStrictlySortedBy}
 use Rattle.std.specs.Ordering.{nat_cmp, eq_by_cmp}
 use Rattle.std.specs.Str.{bytes_eq}
 use Rattle.std.specs.declared.cmp.Ordering.{Ordering}
-use Rattle.std.specs.declared.cmp.Ordering.TheVariants.{Less, Equal, Greater}
+use Rattle.std.specs.declared.cmp.Ordering.TheVariants.{Less}
 use Rattle.std.proofs.lemmas.Cmp.{eq_by_cmp_equiv}
 use Rattle.std.proofs.lemmas.Grind.{flat_map-append}
 use Rattle.std.proofs.lemmas.List.{take_more, take_all}
 use Rattle.std.proofs.lemmas.List.Elements.{Contains-append_left, Contains-append_right, Contains-append_cases}
-use Rattle.std.proofs.lemmas.List.Folds.{list_any-append, Any-from_list_any, list_any-from_Any}
+use Rattle.std.proofs.lemmas.List.Folds.{Any-from_list_any, list_any-from_Any}
 use Rattle.std.proofs.lemmas.List.Kept.{IsStrictlySortedBy-dedup}
 use Rattle.std.proofs.lemmas.Map.Keys.{sorted_head, sorted_tail, IsDistinct-head, IsDistinct-tail}
 use Rattle.std.proofs.lemmas.Map.Text.{is_eq-slice_cmp}
@@ -34,9 +33,6 @@ Paths = List (List ℕ)
 
 pub paths_same : (xs : Paths) → SamePaths xs xs
 paths_same xs = λ path. (λ c. c, λ c. c)
-
-pub paths_joined : (xs ys zs : Paths) → SamePaths xs ys → SamePaths ys zs → SamePaths xs zs
-paths_joined xs ys zs p q = λ path. (λ c. (q path).0 ((p path).0 c), λ c. (p path).1 ((q path).1 c))
 
 more_paths : (xs ys zs ws : Paths) → ((path : List ℕ) → Contains xs path → Contains ys path) → ((path : List ℕ) → Contains zs path → Contains ws path) → (path : List ℕ) → Contains (xs ++ zs) path → Contains (ys ++ ws) path
 more_paths xs ys zs ws p q path c = elim (Contains-append_cases xs zs path c) [
@@ -193,8 +189,8 @@ pub listed_more : (list : List ℕ → Paths) (files more all dirs : Paths) (i :
 listed_more list files more all dirs i dir within at here there is =
     let front = flat_map list (take i dirs) in
     let e : flat_map list (take (i + 1) dirs) ≡ front ++ list dir =
-        ap (flat_map list) (take_more dirs i dir within) ∙ flat_map-append list (take i dirs) (get_or dirs i dir ∷ [])
-        ∙ ap (λ ys. front ++ ys) (append-nil (list (get_or dirs i dir))) ∙ ap (λ d. front ++ list d) (sym at) in
+    ap (flat_map list) (take_more dirs i dir within) ∙ flat_map-append list (take i dirs) (get_or dirs i dir ∷ [])
+    ∙ ap (λ ys. front ++ ys) (append-nil (list (get_or dirs i dir))) ∙ ap (λ d. front ++ list d) (sym at) in
     subst (λ xs. SamePaths xs (flat_map list (take (i + 1) dirs))) (sym is) (subst (SamePaths (files ++ more)) (sym e) (paths_behind files front more (list dir) here there))
 
 -- the paths of all of them

@@ -4,7 +4,6 @@ use Rattle.std.specs.Prelude.{IfErr, IsErrAnd}
 use Rattle.scons_host.specs.declared.stop.Refusal.{Refusal}
 use Rattle.scons_host.specs.declared.stop.Refusal.TheVariants as refusal
 use Rattle.scons_host.specs.declared.stop.Stop.{Stop}
-use Rattle.scons_host.specs.declared.stop.Stop.TheVariants as stop
 use Rattle.scons_host.specs.Refusals.{of_refusal, told_by}
 use Rattle.scons_host.specs.Shown.{IsTold}
 

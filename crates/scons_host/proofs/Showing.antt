@@ -1,6 +1,6 @@
 -- What a look at the files tells of them, from what the world promises; and what one look tells beside others.
-use Rattle.std.proofs.Common.{◌≡◌, ◌∙◌, ◌≤◌, ◌<◌, ℕ, List, [], Bool, true, false, Option, Some, None, Result, Ok, Err, IfOk, IfErr, OnOk, Contains, length, cond, refl, sym, ap, subst}
-use Rattle.std.specs.Prelude.{IfSome, nat_lt, if◌then◌else◌}
+use Rattle.std.proofs.Common.{◌≡◌, ◌∙◌, ◌≤◌, ◌<◌, ℕ, List, Bool, true, false, Option, Some, None, Result, Ok, Err, IfOk, IfErr, length, refl, sym, ap, subst}
+use Rattle.std.specs.Prelude.{IfSome, if◌then◌else◌}
 use Rattle.std.specs.Option.{is_some}
 use Rattle.std.proofs.lemmas.Bool.{le-ltb, lt-ltb}
 use Rattle.world_api.specs.declared.refusal.ReadRefusal.{ReadRefusal}
@@ -25,13 +25,6 @@ module _ {W : Type 0} (m : Meaning W) where
   rest a b c f there on s =
       let asks = there.looks.around (on.looks.told.told s.tells) in
       record { tells = s.tells; quiet = asks.running ∙ s.quiet; shows = steady (m.around a) (m.around b) f asks s.quiet s.shows }
-
-  -- what is told of the first look, and what is told of the one behind it
-  pub shown_first : (a b c : W) (P : Files → Type 0) → LooksAtFiles m b c → Shown m a b P → Shown m a c P
-  shown_first a b c P on shown = λ f s. shown f (front a b c f on s)
-
-  pub shown_next : (a b c : W) (P : Files → Type 0) → LooksAtFiles m a b → LooksAtFiles m b c → Shown m b c P → Shown m a c P
-  shown_next a b c P there on shown = λ f s. shown f (rest a b c f there on s)
 
 -- two lists of the files of a directory have the same paths
 pub listings_same : (a : Around) (dir : List ℕ) (some others : List (List ℕ)) → IsListing a dir some → IsListing a dir others → SamePaths some others
