@@ -34,9 +34,6 @@ Paths = List (List ℕ)
 pub paths_same : (xs : Paths) → SamePaths xs xs
 paths_same xs = λ path. (λ c. c, λ c. c)
 
-pub paths_joined : (xs ys zs : Paths) → SamePaths xs ys → SamePaths ys zs → SamePaths xs zs
-paths_joined xs ys zs p q = λ path. (λ c. (q path).0 ((p path).0 c), λ c. (p path).1 ((q path).1 c))
-
 more_paths : (xs ys zs ws : Paths) → ((path : List ℕ) → Contains xs path → Contains ys path) → ((path : List ℕ) → Contains zs path → Contains ws path) → (path : List ℕ) → Contains (xs ++ zs) path → Contains (ys ++ ws) path
 more_paths xs ys zs ws p q path c = elim (Contains-append_cases xs zs path c) [
   | inl here ↦ Contains-append_left ys ws path (p path here)

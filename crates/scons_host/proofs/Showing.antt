@@ -26,13 +26,6 @@ module _ {W : Type 0} (m : Meaning W) where
       let asks = there.looks.around (on.looks.told.told s.tells) in
       record { tells = s.tells; quiet = asks.running ∙ s.quiet; shows = steady (m.around a) (m.around b) f asks s.quiet s.shows }
 
-  -- what is told of the first look, and what is told of the one behind it
-  pub shown_first : (a b c : W) (P : Files → Type 0) → LooksAtFiles m b c → Shown m a b P → Shown m a c P
-  shown_first a b c P on shown = λ f s. shown f (front a b c f on s)
-
-  pub shown_next : (a b c : W) (P : Files → Type 0) → LooksAtFiles m a b → LooksAtFiles m b c → Shown m b c P → Shown m a c P
-  shown_next a b c P there on shown = λ f s. shown f (rest a b c f there on s)
-
 -- two lists of the files of a directory have the same paths
 pub listings_same : (a : Around) (dir : List ℕ) (some others : List (List ℕ)) → IsListing a dir some → IsListing a dir others → SamePaths some others
 listings_same a dir some others p q = λ path. (λ c. (q.each path).1 ((p.each path).0 c), λ c. (p.each path).1 ((q.each path).0 c))
