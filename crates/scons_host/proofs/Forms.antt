@@ -11,6 +11,10 @@ use Rattle.py_parse.proofs.Top.{one_tree}
 use Rattle.py_parse.proofs.Faults.{one_fault, not_both}
 use Rattle.scons_host.specs.declared.end.ReadKind.{ReadKind}
 use Rattle.scons_host.specs.declared.end.ReadKind.TheVariants as read
+use Rattle.scons_host.specs.declared.stop.Stop.{Stop}
+use Rattle.scons_host.specs.declared.stop.Stop.TheVariants as stop
+use Rattle.scons_host.specs.Broken.{IsBroken, GivesForm}
+use Rattle.scons_host.specs.Untold.{untold_kind}
 use Rattle.scons_host.specs.Forms.{Form, IsForm, is_script, has_no_tokens, has_no_tree}
 
 same_tokens : (bytes : List ℕ) (xs ys : List Token) → Lexes bytes xs → Lexes bytes ys → xs ≡ ys
@@ -48,3 +52,14 @@ one_form bytes a b (has_no_tree {line = line} {kind = kind} xs token p s) (is_sc
 one_form bytes a b (has_no_tree xs token p s) (has_no_tokens {line = at} {kind = why} q) = absurd (not_lexed bytes xs at why p q)
 one_form bytes a b (has_no_tree {line = line} {kind = kind} xs token p s) (has_no_tree {line = at} {kind = why} ys place q r) =
     same_parse xs ys line at token place kind why (same_tokens bytes xs ys p q) s r
+
+-- so what is given is the form that the bytes have
+pub only_form : (path bytes : List ℕ) (made : Result Script Stop) → IfOk made (λ script. IsForm bytes (Ok (script_tree script))) → IfErr made (IsBroken path bytes) → (form : Form) → IsForm bytes form → GivesForm made form
+only_form path bytes (Ok script) ok fault form is = one_form bytes form (Ok (script_tree script)) is ok
+only_form path bytes (Err (stop.There at line kind)) ok fault form is = one_form bytes form (Err (line, untold_kind kind)) is fault.1
+only_form path bytes (Err (stop.Here kind)) ok fault form is = absurd fault
+only_form path bytes (Err (stop.Tree at)) ok fault form is = absurd fault
+only_form path bytes (Err stop.Out) ok fault form is = absurd fault
+only_form path bytes (Err (stop.TooLarge at size)) ok fault form is = absurd fault
+only_form path bytes (Err (stop.TooMany what count)) ok fault form is = absurd fault
+only_form path bytes (Err stop.Memory) ok fault form is = tt

@@ -2,9 +2,9 @@
 ghost use Rattle.std.specs.Prelude.{◌≡◌, ◌≢◌, [], Ok, Err, IfOk, IfErr};
 ghost use Rattle.py_lex.specs.Lexes.{Lexes};
 ghost use Rattle.py_tree.specs.Tree.{script_tree};
-ghost use Rattle.scons_host.specs.Broken.{IsBroken, IsThere};
+ghost use Rattle.scons_host.specs.Broken.{GivesForm, IsBroken, IsThere};
 ghost use Rattle.scons_host.specs.Causes.{HasLookCause, IsInside};
-ghost use Rattle.scons_host.specs.Forms.{IsForm};
+ghost use Rattle.scons_host.specs.Forms.{Form, IsForm};
 ghost use Rattle.scons_host.specs.Scripts as spec;
 ghost use Rattle.scons_host.specs.Shown.{Shown, IsTold};
 ghost use Rattle.scons_host.specs.Untold.{untold_kind, untold_stop};
@@ -82,6 +82,16 @@ fn too_large(path: &PathText, size: u64) -> Stop
 /// The script that a source is.
 #[tactic(auto, using(crate::specs::Looking::looking))]
 pub fn script_of(alloc: Global, source: &Source) -> Result<Script, Stop>
+    ensures inside { IfErr result IsInside }
+    ensures ok { IfOk result (λ script. IsForm source.now.bytes (Ok (script_tree script))) }
+    ensures fault { IfErr result (IsBroken source.now.path source.now.bytes) }
+    ensures only { (form : Form) → IsForm source.now.bytes form → GivesForm result form }
+{
+    script_in(alloc, source)
+}
+
+#[tactic(auto, using(crate::specs::Looking::looking))]
+fn script_in(alloc: Global, source: &Source) -> Result<Script, Stop>
     ensures inside { IfErr result IsInside }
     ensures ok { IfOk result (λ script. IsForm source.now.bytes (Ok (script_tree script))) }
     ensures fault { IfErr result (IsBroken source.now.path source.now.bytes) }
