@@ -22,7 +22,7 @@ use Rattle.scons_host.specs.Calling.{valued, as_value, answered, answered_in, ca
 use Rattle.scons_host.specs.Files.{Files}
 use Rattle.scons_host.specs.Forms.{IsForm, TellsForms}
 use Rattle.scons_host.specs.Refusals.{of_refusal, told_by}
-use Rattle.scons_host.specs.Scripts.{Look, bytes_at, standing, tree_by, begin, noted, begins, found, begins_at, begins_found, next_begins, opened, next_file, answer_of, waits, runs, answers, goes_on, go_on, sconscript, left, call_taken, with_answer, ended_in, script_done, first_by, first, some_tree, next_by, next_path, next_first}
+use Rattle.scons_host.specs.Scripts.{Look, bytes_at, standing, tree_by, begin, noted, begins, found, begins_at, begins_found, next_begins, opened, next_file, answer_of, waits, runs, answers, goes_on, go_on, sconscript, left, call_taken, with_answer, ended_in, script_done, first_by, first}
 use Rattle.scons_host.specs.Shown.{IsTold}
 use Rattle.scons_host.specs.SoFar.{SoFar, Waiting}
 use Rattle.scons_host.specs.Untold.{untold_stop}
@@ -66,7 +66,7 @@ found_goes f s t waiting file at source r is stands on =
 
 -- A call goes on.
 
-pub goes_by : (f : Files) (s : SoFar) (h : Objects) (waiting : Waiting) (next : Option Node × Waiting) (r : Look Given) → next_file waiting ≡ next → goes_on f s h next ≡ r → go_on f s h waiting ≡ r
+goes_by : (f : Files) (s : SoFar) (h : Objects) (waiting : Waiting) (next : Option Node × Waiting) (r : Look Given) → next_file waiting ≡ next → goes_on f s h next ≡ r → go_on f s h waiting ≡ r
 goes_by f s h waiting next r is on = ap (goes_on f s h) is ∙ on
 
 pub runs_next : (f : Files) (s t u : SoFar) (h : Objects) (before after : Waiting) (file : Node) (tree : Tree) → next_file before ≡ (Some file, after) → next_begins f s after file ≡ Ok (tree, t) → u ≡ waits t after → go_on f s h before ≡ Ok (a_script tree, u, h)
@@ -114,18 +114,6 @@ first_unread f s path e is = then_stops (bytes_at f path) (first_by f s path) e 
 
 pub first_goes : (f : Files) (s : SoFar) (path : List ℕ) (bytes : Option (List ℕ)) (r : Begun) → bytes_at f path ≡ Ok bytes → first_by f s path bytes ≡ r → first f s path ≡ r
 first_goes f s path bytes r is on = then_goes (bytes_at f path) (first_by f s path) bytes r is on
-
-abbrev Next : Type 0
-Next = Result (Option Tree × SoFar) Stop
-
-pub next_well : (f : Files) (s t u : SoFar) (path : List ℕ) (tree : Tree) → next_path s ≡ (Some path, t) → first f (left t) path ≡ Ok (tree, u) → next_first f s ≡ Ok (Some tree, u)
-next_well f s t u path tree is made = ap (next_by f) is ∙ ap (λ m. let r : Next = and_then m some_tree in r) made
-
-pub next_badly : (f : Files) (s t : SoFar) (path : List ℕ) (e : Stop) → next_path s ≡ (Some path, t) → first f (left t) path ≡ Err e → next_first f s ≡ Err e
-next_badly f s t path e is made = ap (next_by f) is ∙ then_stops (first f (left t) path) some_tree e made
-
-pub next_none : (f : Files) (s t : SoFar) → next_path s ≡ (None, t) → next_first f s ≡ Ok (None, t)
-next_none f s t is = ap (next_by f) is
 
 -- The call of an object.
 

@@ -1,6 +1,8 @@
 -- Bytes have one form.
-use Rattle.std.proofs.Common.{◌≡◌, ◌∙◌, ℕ, List, [], Ok, Err, ap, subst}
+use Rattle.std.proofs.Common.{◌≡◌, ◌∙◌, ℕ, List, [], Result, Ok, Err, IfOk, IfErr, ap, subst}
 use Rattle.py_token.specs.declared.token.Token.{Token}
+use Rattle.py_tree.specs.declared.line.Script.{Script}
+use Rattle.py_tree.specs.Tree.{script_tree}
 use Rattle.py_lex.specs.declared.fault.LexKind.{LexKind}
 use Rattle.py_lex.specs.Lexes.{lexed, faulty, Lexes, FaultAt}
 use Rattle.py_lex.proofs.One.{IsRead-one}

@@ -1,5 +1,4 @@
 pub mod Beginning
-mod Exits
 pub mod Forms
 pub mod Keeping
 pub mod Lasts
