@@ -48,3 +48,4 @@ mod Endings
 mod Unrecorded
 mod Unmade
 mod Forgetting
+mod Faulted
