@@ -534,8 +534,7 @@ module _ {W O E : Type 0} (m : Meaning W) where
         since_kept o site.graph.now (m.around site.world.now).log site.account.now new want ended leads.0 adds
 
   -- an end that a call passes on
-  pub leads_exit : {T R : Type 0} (o : Outset) (site : Site W O E) (r : Result T ListEnd) (s : Result R ListEnd) (e : ListEnd) → s ≡ Err e →
-      IsErrAnd r (λ x. x ≡ e) → LeadsFaulted m o site s → LeadsFaulted m o site r
-  leads_exit o site (Ok value) s e is same leads = absurd same
-  leads_exit {R = R} o site (Err x) s e is same leads =
-      subst (λ (y : ListEnd). LeadsFaulted {T = R} m o site (Err y)) (sym same) (subst (λ (q : Result R ListEnd). LeadsFaulted m o site q) is leads)
+  pub leads_exit : {T : Type 0} (o : Outset) (site : Site W O E) (r : Result T ListEnd) (e : ListEnd) → IsErrAnd r (λ x. x ≡ e) →
+      IsFaulted m o site × MayEnd o (m.around site.world.now).log e → LeadsFaulted m o site r
+  leads_exit o site (Ok value) e is leads = leads.0
+  leads_exit o site (Err x) e is leads = subst (λ (y : ListEnd). IsFaulted m o site × MayEnd o (m.around site.world.now).log y) (sym is) leads

@@ -49,3 +49,5 @@ mod Unrecorded
 mod Unmade
 mod Forgetting
 mod Faulted
+mod Unstarted
+mod Reported

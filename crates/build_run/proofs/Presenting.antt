@@ -1,6 +1,6 @@
 -- What a build decides by what its rule reads.
 use Rattle.std.proofs.Common.{◌≡◌, ◌∙◌, ◌<◌, true, false, Bool, List, [], ◌∷◌, Some, length, refl, sym, subst, ap}
-use Rattle.std.specs.Prelude.{Result, Ok, IfOk}
+use Rattle.std.specs.Prelude.{Result, Ok, IfOk, slice_get}
 use Rattle.scons_base.specs.declared.ids.NodeId.{NodeId}
 use Rattle.scons_base.specs.declared.ids.RuleId.{RuleId}
 use Rattle.world_api.specs.Around.{Around, IsRunningTarget}
@@ -12,25 +12,29 @@ use Rattle.rule_graph.specs.Graphs.{path_of}
 use Rattle.task_plan.specs.Settled.{deps_of}
 use Rattle.task_plan.specs.declared.want.PlanEvent.TheVariants as told
 use Rattle.build_model.specs.Rules.{Path, Rule, Among, here}
-use Rattle.build_model.specs.Steps.{Lacks}
+use Rattle.build_model.specs.Steps.{IsMissing, Lacks}
 use Rattle.build_model.proofs.Lists.{true_false, among_same, among_left, among_right}
 use Rattle.build_means.specs.Grown.{Begun, rule_numbered}
 use Rattle.build_means.specs.Present.{IsFirstAbsent}
 use Rattle.build_means.specs.Rules.{paths_of}
+use Rattle.build_files.specs.Firsts.{first_target_of}
 use Rattle.build_files.specs.Presence.{AreStill, IsPresentFor}
 use Rattle.build_files.specs.declared.end.ListEnd.{ListEnd}
 use Rattle.build_files.specs.declared.record.Present.{Present}
 use Rattle.build_files.specs.declared.record.Present.TheVariants as present
-use Rattle.turn_means.specs.Standing.{Outset, IsOutset, begun_at, Standing, Knows, IsAt}
+use Rattle.scons_report.proofs.Found.{path_at}
+use Rattle.turn_means.specs.Standing.{Outset, IsOutset, begun_at, setting_at, Standing, Knows, IsAt}
 use Rattle.turn_means.specs.Laws.{HasMet, IsChosen, IsTold, IsWeighed}
 use Rattle.turn_means.proofs.Turns.{lacks}
 use Rattle.build_run.specs.Along.{GoesOn, IsAlong, IsDue, IsOn, KeepsEnds, Presents, is_faulted, standing_of}
+use Rattle.build_run.specs.Faulted.{IsLacking}
 use Rattle.build_run.specs.Sites.{most_jobs}
 use Rattle.build_run.specs.declared.building.Options.{Options}
 use Rattle.build_run.specs.declared.site.Run.{Run}
 use Rattle.build_run.specs.declared.site.Site.{Site}
 use Rattle.build_run.specs.Books.{AreBooked, book_of}
 use Rattle.build_run.proofs.Booking.{lacks_booked, shut_on}
+use Rattle.build_run.proofs.Unstarted.{own_first, source_same}
 use Rattle.build_run.proofs.Choosing.{along_looked, deps_still, goes_before, looked_for, not_ended, numbered_rule, paths_still, told_before, unread_still, weighed_on}
 
 -- the first that is missing is so still behind a look
@@ -155,6 +159,23 @@ module _ {W O E : Type 0} (m : Meaning W) (o : Outset) (outset : IsOutset o) (ol
       goes_with : (ended now : Bool) → (ended ≡ true → now ≡ true) → now ≡ false → ended ≡ false
       goes_with true now stays e = true_false (sym (stays refl) ∙ e)
       goes_with false now stays e = refl
+
+  -- that one was missing as the build began
+  pub lacks_then : (node : NodeId) → result ≡ Ok (present.Lacks node) → (path target : Path) → slice_get old.graph.now.nodes node.0 ≡ Some path →
+      first_target_of old.graph.now rule.0 ≡ Some target → IsLacking (setting_at o) o.before.tree path target
+  lacks_then node ok path target at named =
+      let is = read (present.Lacks node) ok model.0 model.1 in
+      let absent = is.1 (looked_for o outset along.on.jobs (standing_of m old) along.on.past along.on.at.way known rule chosen.next node is.0) in
+      let none = absent.is_missing in
+      record {
+        rule = model.0;
+        own = own_first (begun_at o) old.graph.now known.now rule.0 model.0 model.1 target named;
+        missing = subst (λ (p : Path). IsMissing (setting_at o) o.before.tree p) (path_at old.graph.now node path at) (record {
+          no_rule = none.no_rule;
+          no_file = source_same o outset along.on.jobs (m.around old.world.now) along.on.past along.on.at.way (path_of old.graph.now.nodes node) none.no_rule
+              ∙ none.no_file;
+        });
+      }
 
 -- behind a fault of that the build goes on, or not
 module _ {W O E : Type 0} (m : Meaning W) (o : Outset) (outset : IsOutset o) (old last : Site W O E) (along : IsAlong m o old)
