@@ -13,7 +13,7 @@ use Rattle.rule_graph.specs.declared.build_fault.BuildFault.{BuildFault}
 use Rattle.rule_graph.specs.declared.build_fault.BuildFault.TheVariants as fault
 use Rattle.build_model.specs.Rules.{Path, Setting, Tree, Among, here, there}
 use Rattle.build_model.proofs.Lists.{among_either, among_left, among_right, some_same, true_false}
-use Rattle.build_files.specs.Causes.{HasEndCause, IsInside}
+use Rattle.build_files.specs.Causes.{HasEndCause, HasLookCause, IsInside}
 use Rattle.build_files.specs.Causes.{HasFaultCause as HasLookFault}
 use Rattle.build_files.specs.Firsts.{first_target_of}
 use Rattle.build_files.specs.Searched.{GrowsTo}
@@ -21,6 +21,7 @@ use Rattle.build_files.specs.declared.end.ListEnd.{ListEnd}
 use Rattle.build_files.specs.declared.end.ListEnd.TheVariants as end
 use Rattle.turn_means.specs.Standing.{Outset, setting_at}
 use Rattle.build_run.specs.Along.{HasFailed}
+use Rattle.build_run.specs.Causes.{HasPrintEnd}
 use Rattle.build_run.specs.Endings.{KeepsWant}
 use Rattle.build_run.specs.Faulted.{fault_of, AddsCycle, AddsDone, AddsFault, AddsOut, AddsOutcome, Adds, AreFaulted, AreFaultsOf, AreNamedBy, EndsAtStart, EndsPlainly, HasFaultsBy, HasNoCycle, HasNoStartFault, IsCycleFault, IsFaulted, IsFaultedAt, IsFirstBy, IsPlain, IsPlainEnd, IsStartEnd, IsUnstarted, LeadsFaulted, MayEnd, MayStandBeside, SiteKeepsFaulted, StandsBeside, none_yet, has_started, was_done, is_told, is_untold, stands_beside, is_kept, is_lost, out_behind, none_added, out_added, was_lost, was_told, none_told, cycle_told, plain_told}
 use Rattle.build_run.specs.Unmade.{HasNoMaker, Since}
@@ -198,6 +199,23 @@ plain_exit (Err x) e is plain = subst (λ (y : ListEnd). IsPlainEnd y) (sym is) 
 pub plain_within : {T : Type 0} (r : Result T ListEnd) → IsErrAnd r IsInside → EndsPlainly r
 plain_within (Ok value) is = tt
 plain_within (Err x) is = plain_inside x is
+
+pub plain_result : {T : Type 0} (a b : Counts) (r : Result T ListEnd) → HasLookCause a b r → EndsPlainly r
+plain_result a b (Ok value) h = tt
+plain_result a b (Err e) h = plain_look a b e h
+
+-- of a print that was refused
+pub plain_print : (a b : ℕ) (e : ListEnd) → HasPrintEnd a b e → IsPlainEnd e
+plain_print a b (end.Fault (fault.Missing node target)) h = h
+plain_print a b (end.Fault (fault.Cycle paths)) h = h
+plain_print a b (end.Fault (fault.ActionFailed target code)) h = h
+plain_print a b (end.Fault (fault.TreeFault path)) h = tt
+plain_print a b (end.Fault (fault.StartFault target)) h = h
+plain_print a b (end.Fault fault.StoreFault) h = tt
+plain_print a b (end.Fault fault.OutFault) h = tt
+plain_print a b (end.Fault (fault.TooLarge path size)) h = tt
+plain_print a b (end.Fault (fault.TooMany what count)) h = tt
+plain_print a b end.Memory h = tt
 
 pub plain_starts : {T : Type 0} (g : RuleGraph) (rule : ℕ) (r : Result T ListEnd) → EndsPlainly r → EndsAtStart g rule r
 plain_starts g rule (Ok value) plain = tt

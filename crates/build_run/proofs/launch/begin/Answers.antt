@@ -37,3 +37,6 @@ pub returns-in-Err-Memory-clause-safe : goal.returns-in-Err-Memory-clause-safe
 returns-in-Err-Memory-clause-safe g c = λ s safe.
     let is = c.start.ensures in
     safe_asked g.W.Disk.meaning s c.args.world.now c.start.new.self is.told is.banks is.time safe (λ t. c.in-Err-Memory.ensures.refused t)
+
+pub returns-in-Err-Fault-clause-faulted : goal.returns-in-Err-Fault-clause-faulted
+returns-in-Err-Fault-clause-faulted g c = c.unstarted.ensures.named
