@@ -1,5 +1,6 @@
 -- A build, from what it began with: leftover copies went, and from there it took its steps.
-use Rattle.std.proofs.Common.{arith, ◌≡◌, ◌∙◌, ℕ, Bool, true, false, ◌||◌, List, [], Contains, length, refl, subst, sym, ap}
+use Rattle.std.proofs.Common.{arith, ◌≡◌, ◌∙◌, ℕ, Bool, true, false, ◌||◌, List, [], Contains, append-nil, length, refl, subst, sym, ap}
+use Rattle.std.proofs.lemmas.List.{append_cancel_left}
 use Rattle.std.specs.Prelude.{Result, Ok, Err, IfOk, OnErr, max, min, nat_lt}
 use Rattle.build_model.proofs.Lists.{true_false}
 use Rattle.scons_base.specs.declared.ids.NodeId.{NodeId}
@@ -16,8 +17,9 @@ use Rattle.sign_store.specs.Ends.{image_in}
 use Rattle.sign_store.specs.Tables.{Map}
 use Rattle.sign_store.specs.declared.store.Store.{Store}
 use Rattle.build_files.specs.declared.end.ListEnd.{ListEnd}
-use Rattle.build_means.specs.Builds.{IsByContent, KeepsRecords, Wanted, build_in, graph_in, jobs_at_once, setting_in}
+use Rattle.build_means.specs.Builds.{IsByContent, IsJobIn, KeepsRecords, Wanted, build_in, graph_in, jobs_at_once, setting_in}
 use Rattle.build_means.specs.Laws.{RunsAreRight}
+use Rattle.build_means.specs.Logs.{AreUnrisen}
 use Rattle.build_means.specs.Records.{records_in}
 use Rattle.build_means.specs.Graphs.{act_by}
 use Rattle.build_model.specs.Contents.{View}
@@ -39,6 +41,7 @@ use Rattle.build_run.specs.Along.{is_faulted}
 use Rattle.build_run.specs.Ledgers.{Ledger, ledger_of, blank}
 use Rattle.build_run.specs.Output.{BuildPrints, MakesPrinted}
 use Rattle.build_run.specs.Outsets.{wanted_of, GoesByContent, BuildRuns, BuildSucceeds, HasMade, HasRun, HasSetOut, IsBlank, IsReadyFor, Leaves, MakesAll, SetsOut, SetsOutBehind, StandFor, StaysKept}
+use Rattle.build_run.specs.Faulted.{AddsEnd, AreFaultsOf, BuildFaults, IsFirstOf, IsPlainEnd, MadeFaulted, StandsBeside}
 use Rattle.build_run.specs.Forgetting.{HasForgotten}
 use Rattle.build_run.specs.Remembering.{HasRemembered}
 use Rattle.build_run.specs.Safe.{HasOutset, MakesSafely, TakesSafely}
@@ -55,6 +58,7 @@ use Rattle.build_run.proofs.StepTexts.{steps_printed}
 use Rattle.build_run.proofs.EndingOn.{not_before}
 use Rattle.build_run.proofs.Forgetting.{forgets_none, has_forgotten, watch_unmade}
 use Rattle.build_run.proofs.Remembering.{has_remembered}
+use Rattle.build_run.proofs.Reported.{refused_reported, reported}
 use Rattle.build_run.proofs.Safely.{safe_on}
 use Rattle.build_run.proofs.Stopped.{never_covers, none_watched, safe_first, unwatched}
 use Rattle.build_run.specs.declared.building.Options.{Options}
@@ -215,6 +219,23 @@ module _ {W : Type 0} (m : Meaning W) (g : RuleGraph) (requested : List NodeId) 
         };
       }
 
+      -- what it reports comes of its log
+      pub build_faulted : (now : RuleGraph) → MadeFaulted m h run mid b account options now c after → (answer : BuildEnd) → answer.is_ended ≡ after.is_ended →
+          answer.faults ≡ after.faults.items → answer.memory ≡ after.memory → BuildFaults m g requested options store a last c answer
+      build_faulted now faulted answer same said noted = λ tells sure below.
+          let left = (has (told tells) below).left in
+          let runs = (made tells sure below).runs in
+          record {
+            run = has_run answer same tells sure below;
+            faults =
+                subst (λ (wanting : Bool). AreFaultsOf (IsFirstOf runs.log.entries) (StandsBeside (setting_in w left) left.tree runs.log.entries) wanting
+                runs.log.entries answer.faults) (sym noted)
+                (subst (λ (faults : List BuildFault). AreFaultsOf (IsFirstOf runs.log.entries) (StandsBeside (setting_in w left) left.tree runs.log.entries)
+                after.memory runs.log.entries faults) (sym said)
+                (reported (IsJobIn w (map_of mid) left (m.around c)) (AreUnrisen w.keep (m.counts a)) (o (told tells) below) now after runs.steps
+                runs.log.entries (m.around c).log runs.log.are runs.log.grown (faulted tells sure (o (told tells) below) (ready (told tells) below))));
+          }
+
       pub build_succeeded : (answer : BuildEnd) → (answer.faults ≡ [] → answer.memory ≡ false → is_faulted after ≡ false) →
           BuildSucceeds m w (map_of store) a c (map_of last) answer
       build_succeeded answer faulted = λ none memory tells sure below.
@@ -359,6 +380,23 @@ module _ {W : Type 0} (m : Meaning W) (g : RuleGraph) (requested : List NodeId) 
         let ran = did w (map_of mid) (m.counts a) (m.around c) (m.around c) [] [] read (begin w (map_of mid) (m.counts a) (m.around c) none) in
         has_counted m w (map_of store) a c (map_of mid) answer.is_ended answer.memory (has_refused back leaves answer ended tells) (ap running ran.1) (endings tells);
   }
+
+  pub refused_faulted : (m.tells c → m.tells a) → Leaves m a store c mid (IsLeftAt g (m.around a) (map_of store)) → (answer : BuildEnd) →
+      answer.is_ended ≡ true → (e : ListEnd) (old new : Account) → IsPlainEnd e → AddsEnd old e new → old.faults.items ≡ [] →
+      answer.faults ≡ new.faults.items → answer.memory ≡ new.memory → BuildFaults m g requested options store a mid c answer
+  refused_faulted back leaves answer ended e old new plain adds none said noted = λ tells sure below.
+      let ran = has_refused back leaves answer ended tells in
+      let entries = ran.runs.log.entries in
+      let log = (m.around c).log in
+      let s = setting_in w (m.around c) in
+      let empty : entries ≡ [] = append_cancel_left log entries [] (sym ran.runs.log.grown ∙ sym (append-nil log)) in
+      record {
+        run = ran;
+        faults =
+            subst (λ (wanting : Bool). AreFaultsOf (IsFirstOf entries) (StandsBeside s (m.around c).tree entries) wanting entries answer.faults) (sym noted)
+            (subst (λ (faults : List BuildFault). AreFaultsOf (IsFirstOf entries) (StandsBeside s (m.around c).tree entries) new.memory entries faults)
+            (sym said) (refused_reported s (m.around c).tree entries empty e old new plain adds none));
+      }
 
   pub refused_untold : (after : Account) → is_faulted after ≡ true → (answer : BuildEnd) →
       (answer.faults ≡ [] → answer.memory ≡ false → is_faulted after ≡ false) → BuildSucceeds m w (map_of store) a c (map_of mid) answer

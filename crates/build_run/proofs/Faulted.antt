@@ -4,13 +4,15 @@ use Rattle.std.specs.Prelude.{Result, Ok, Err, IsErrAnd, OnErr, slice_get}
 use Rattle.std.proofs.lemmas.List.Elements.{Contains-append_left, Contains-push}
 use Rattle.world_api.specs.Around.{Around, Entry, Started, Finished}
 use Rattle.world_api.specs.Counts.{Counts}
-use Rattle.world_api.specs.Meaning.{Meaning}
+use Rattle.world_api.specs.Meaning.{Meaning, Told}
 use Rattle.world_api.specs.declared.job.Job.{Job}
 use Rattle.world_api.specs.declared.job.Outcome.{Outcome}
 use Rattle.world_api.specs.declared.job.Outcome.TheVariants.{Done, Failed, Broken, NoMemory}
 use Rattle.rule_graph.specs.Graphs.{RuleGraph}
 use Rattle.rule_graph.specs.declared.build_fault.BuildFault.{BuildFault}
 use Rattle.rule_graph.specs.declared.build_fault.BuildFault.TheVariants as fault
+use Rattle.task_plan.specs.declared.want.PlanEvent.{PlanEvent}
+use Rattle.task_plan.specs.declared.want.Want.{Want}
 use Rattle.build_model.specs.Rules.{Path, Setting, Tree, Among, here, there}
 use Rattle.build_model.proofs.Lists.{among_either, among_left, among_right, some_same, true_false}
 use Rattle.build_files.specs.Causes.{HasEndCause, HasLookCause, IsInside}
@@ -20,13 +22,15 @@ use Rattle.build_files.specs.Searched.{GrowsTo}
 use Rattle.build_files.specs.declared.end.ListEnd.{ListEnd}
 use Rattle.build_files.specs.declared.end.ListEnd.TheVariants as end
 use Rattle.turn_means.specs.Standing.{Outset, setting_at}
-use Rattle.build_run.specs.Along.{HasFailed}
+use Rattle.build_run.specs.Along.{HasFailed, IsReliable, IsWantedOf, StaysAlong}
 use Rattle.build_run.specs.Causes.{HasPrintEnd}
 use Rattle.build_run.specs.Endings.{KeepsWant}
-use Rattle.build_run.specs.Faulted.{fault_of, AddsCycle, AddsDone, AddsFault, AddsOut, AddsOutcome, Adds, AreFaulted, AreFaultsOf, AreNamedBy, EndsAtStart, EndsPlainly, HasFaultsBy, HasNoCycle, HasNoStartFault, IsCycleFault, IsFaulted, IsFaultedAt, IsFirstBy, IsPlain, IsPlainEnd, IsStartEnd, IsUnstarted, LeadsFaulted, MayEnd, MayStandBeside, SiteKeepsFaulted, StandsBeside, none_yet, has_started, was_done, is_told, is_untold, stands_beside, is_kept, is_lost, out_behind, none_added, out_added, was_lost, was_told, none_told, cycle_told, plain_told}
-use Rattle.build_run.specs.Unmade.{HasNoMaker, Since}
+use Rattle.build_run.specs.Faulted.{fault_of, AddsCycle, AddsDone, AddsFault, AddsOut, AddsOutcome, Adds, AreFaulted, AreFaultsOf, AreNamedBy, EndsAtStart, EndsPlainly, GoesFaulted, HasFaultsBy, HasNoCycle, HasNoStartFault, IsCycleFault, IsFaulted, IsFaultedAt, IsFirstBy, IsLacking, IsPlain, IsPlainEnd, IsStartEnd, IsUnstarted, LeadsFaulted, MayEnd, MayStandBeside, SiteKeepsFaulted, StandsBeside, TellsFaulted, TurnsFaulted, none_yet, has_started, was_done, is_told, is_untold, stands_beside, is_kept, is_lost, out_behind, none_added, out_added, was_lost, was_told, none_told, cycle_told, plain_told}
+use Rattle.build_run.specs.Sites.{most_jobs}
+use Rattle.build_run.specs.Unmade.{Since}
 use Rattle.build_run.specs.declared.account.Account.{Account}
 use Rattle.build_run.specs.declared.site.Site.{Site}
+use Rattle.build_run.proofs.Alongs.{is_reliable}
 use Rattle.build_run.proofs.Holding.{in_pushed}
 use Rattle.build_run.proofs.Noting.{names_grow}
 use Rattle.build_run.proofs.Unmade.{since_both, since_more, since_same}
@@ -277,6 +281,9 @@ no_start_more faults f none other target h = elim (in_pushed faults f (fault.Sta
   | inr same ↦ other target same
 ]
 
+missing_start : {P : Type 0} (node target other : Path) → fault.Missing node target ≡ fault.StartFault other → P
+missing_start node target other e = cc e
+
 out_no_start : (target : Path) → fault.OutFault ≡ fault.StartFault target → ⊥
 out_no_start target e = cc e
 
@@ -489,10 +496,13 @@ module _ (o : Outset) (g : RuleGraph) (log : List Entry) where
     since_told f may over adds = since_both o.before.log log (λ entries. MayStandBeside (setting_at o) o.before.tree entries f) (AreFaulted o g old)
         (AreFaulted o g new) (λ entries so are. faulted_more o g entries old new want ended are f so over adds) may has
 
-    -- what came of a turn was told
-    since_ended : (e : ListEnd) → MayEnd o log e → new.is_ended ≡ true → AddsDone {T = Unit {0}} old (Err e) new → IsFaultedAt o g new log
-    since_ended (end.Fault f) may over adds = since_told f may (λ target is. over) adds
-    since_ended end.Memory may over same = since_kept same
+    -- or that a dependency is missing
+    pub since_missing : (f : BuildFault) (node target : Path) → f ≡ fault.Missing node target → IsLacking (setting_at o) o.before.tree node target →
+        AddsFault old f new → IsFaultedAt o g new log
+    since_missing f node target is lacks adds = since_as o.before.log log (AreFaulted o g old) (AreFaulted o g new)
+        (λ entries are. faulted_more o g entries old new want ended are f
+        (subst (λ (x : BuildFault). MayStandBeside (setting_at o) o.before.tree entries x) (sym is) lacks)
+        (λ other e. missing_start node target other (sym is ∙ e)) adds) has
 
   pub since_entry : (log_now : List Entry) (old new : Account) (entry : Entry) → log_now ≡ log ++ entry ∷ [] →
       ((entries : List Entry) → AreFaulted o g old entries → AreFaulted o g new (entries ++ entry ∷ [])) → IsFaultedAt o g old log → IsFaultedAt o g new log_now
@@ -556,3 +566,24 @@ module _ {W O E : Type 0} (m : Meaning W) where
       IsFaulted m o site × MayEnd o (m.around site.world.now).log e → LeadsFaulted m o site r
   leads_exit o site (Ok value) e is leads = leads.0
   leads_exit o site (Err x) e is leads = subst (λ (y : ListEnd). IsFaulted m o site × MayEnd o (m.around site.world.now).log y) (sym is) leads
+
+-- ---- turns
+
+module _ {W O E : Type 0} (m : Meaning W) where
+  pub turns_faulted : {T : Type 0} (start old mid new : Site W O E) (wish : Want) (done : Result T ListEnd) → Told m mid.world.now new.world.now →
+      Told m old.world.now mid.world.now → ((old.run.now.plan.halted ≡ false → IsReliable old.run.now.plan) →
+      IsWantedOf (length old.run.now.tickets) (most_jobs old.options) old.run.now.plan wish) → StaysAlong m start old → GoesFaulted m start old →
+      TurnsFaulted m old mid wish done → TellsFaulted m mid new done → GoesFaulted m start new
+  turns_faulted start old mid new wish done told first may along goes turn then tells sure o outset began has =
+      let tells_mid = told.told tells in
+      let sure_mid = told.sure tells sure in
+      let tells_old = first.told tells_mid in
+      let sure_old = first.sure tells_mid sure_mid in
+      let here = along tells_old sure_old o outset began in
+      then o (turn tells_mid sure_mid o outset here (may (is_reliable m o old here)) (goes tells_old sure_old o outset began has))
+
+  -- where want of memory is told
+  pub wants_faulted : (start old new : Site W O E) → Told m old.world.now new.world.now → GoesFaulted m start old →
+      TellsFaulted {T = PlanEvent} m old new (Err end.Memory) → GoesFaulted m start new
+  wants_faulted start old new told goes then tells sure o outset began has =
+      then o (goes (told.told tells) (told.sure tells sure) o outset began has, tt)

@@ -91,6 +91,12 @@ refused_faults IsFirst s before entries (end.Fault f) old new plain adds none =
 refused_faults IsFirst s before entries end.Memory old new plain same none =
     subst (λ (faults : List BuildFault). AreFaultsOf IsFirst (StandsBeside s before entries) new.memory [] faults) (sym (same ∙ none)) none_yet
 
+pub refused_reported : (s : Setting) (before : Tree) (entries : List Entry) → entries ≡ [] → (e : ListEnd) (old new : Account) → IsPlainEnd e → AddsEnd old e new →
+    old.faults.items ≡ [] → AreFaultsOf (IsFirstOf entries) (StandsBeside s before entries) new.memory entries new.faults.items
+refused_reported s before entries empty e old new plain adds none =
+    subst (λ (l : List Entry). AreFaultsOf (IsFirstOf entries) (StandsBeside s before entries) new.memory l new.faults.items) (sym empty)
+    (refused_faults (IsFirstOf entries) s before entries e old new plain adds none)
+
 -- ---- by the log of its steps
 
 module _ (IsJob : Rule → Job → Type 0) (AreAt : Counts → Type 0) where
