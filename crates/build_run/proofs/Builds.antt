@@ -228,9 +228,9 @@ module _ {W : Type 0} (m : Meaning W) (g : RuleGraph) (requested : List NodeId) 
           record {
             run = has_run answer same tells sure below;
             faults =
-                subst (λ (wanting : Bool). AreFaultsOf (IsFirstOf runs.log.entries) (StandsBeside (setting_in w left) left.tree runs.log.entries) wanting
+                subst (λ (wanting : Bool). AreFaultsOf (IsFirstOf runs.log.entries) (StandsBeside (o (told tells) below) runs.log.entries) wanting
                 runs.log.entries answer.faults) (sym noted)
-                (subst (λ (faults : List BuildFault). AreFaultsOf (IsFirstOf runs.log.entries) (StandsBeside (setting_in w left) left.tree runs.log.entries)
+                (subst (λ (faults : List BuildFault). AreFaultsOf (IsFirstOf runs.log.entries) (StandsBeside (o (told tells) below) runs.log.entries)
                 after.memory runs.log.entries faults) (sym said)
                 (reported (IsJobIn w (map_of mid) left (m.around c)) (AreUnrisen w.keep (m.counts a)) (o (told tells) below) now after runs.steps
                 runs.log.entries (m.around c).log runs.log.are runs.log.grown (faulted tells sure (o (told tells) below) (ready (told tells) below))));
@@ -388,14 +388,14 @@ module _ {W : Type 0} (m : Meaning W) (g : RuleGraph) (requested : List NodeId) 
       let ran = has_refused back leaves answer ended tells in
       let entries = ran.runs.log.entries in
       let log = (m.around c).log in
-      let s = setting_in w (m.around c) in
+      let o = begun_here tells below in
       let empty : entries ≡ [] = append_cancel_left log entries [] (sym ran.runs.log.grown ∙ sym (append-nil log)) in
       record {
         run = ran;
         faults =
-            subst (λ (wanting : Bool). AreFaultsOf (IsFirstOf entries) (StandsBeside s (m.around c).tree entries) wanting entries answer.faults) (sym noted)
-            (subst (λ (faults : List BuildFault). AreFaultsOf (IsFirstOf entries) (StandsBeside s (m.around c).tree entries) new.memory entries faults)
-            (sym said) (refused_reported s (m.around c).tree entries empty e old new plain adds none));
+            subst (λ (wanting : Bool). AreFaultsOf (IsFirstOf entries) (StandsBeside o entries) wanting entries answer.faults) (sym noted)
+            (subst (λ (faults : List BuildFault). AreFaultsOf (IsFirstOf entries) (StandsBeside o entries) new.memory entries faults)
+            (sym said) (refused_reported o entries empty e old new plain adds none));
       }
 
   pub refused_untold : (after : Account) → is_faulted after ≡ true → (answer : BuildEnd) →

@@ -13,7 +13,7 @@ use Rattle.rule_graph.specs.declared.build_fault.BuildFault.{BuildFault}
 use Rattle.rule_graph.specs.declared.build_fault.BuildFault.TheVariants as fault
 use Rattle.task_plan.specs.declared.want.PlanEvent.{PlanEvent}
 use Rattle.task_plan.specs.declared.want.Want.{Want}
-use Rattle.build_model.specs.Rules.{Path, Setting, Tree, Among, here, there}
+use Rattle.build_model.specs.Rules.{Path, Among, here, there}
 use Rattle.build_model.proofs.Lists.{among_either, among_left, among_right, some_same, true_false}
 use Rattle.build_files.specs.Causes.{HasEndCause, HasLookCause, IsInside}
 use Rattle.build_files.specs.Causes.{HasFaultCause as HasLookFault}
@@ -21,11 +21,11 @@ use Rattle.build_files.specs.Firsts.{first_target_of}
 use Rattle.build_files.specs.Searched.{GrowsTo}
 use Rattle.build_files.specs.declared.end.ListEnd.{ListEnd}
 use Rattle.build_files.specs.declared.end.ListEnd.TheVariants as end
-use Rattle.turn_means.specs.Standing.{Outset, setting_at}
+use Rattle.turn_means.specs.Standing.{Outset}
 use Rattle.build_run.specs.Along.{HasFailed, IsReliable, IsWantedOf, StaysAlong}
 use Rattle.build_run.specs.Causes.{HasPrintEnd}
 use Rattle.build_run.specs.Endings.{KeepsWant}
-use Rattle.build_run.specs.Faulted.{fault_of, AddsCycle, AddsDone, AddsFault, AddsOut, AddsOutcome, Adds, AreFaulted, AreFaultsOf, AreNamedBy, EndsAtStart, EndsPlainly, GoesFaulted, HasFaultsBy, HasNoCycle, HasNoStartFault, IsCycleFault, IsFaulted, IsFaultedAt, IsFirstBy, IsLacking, IsPlain, IsPlainEnd, IsStartEnd, IsUnstarted, LeadsFaulted, MayEnd, MayStandBeside, SiteKeepsFaulted, StandsBeside, TellsFaulted, TurnsFaulted, none_yet, has_started, was_done, is_told, is_untold, stands_beside, is_kept, is_lost, out_behind, none_added, out_added, was_lost, was_told, none_told, cycle_told, plain_told}
+use Rattle.build_run.specs.Faulted.{fault_of, AddsCycle, AddsDone, AddsFault, AddsOut, AddsOutcome, Adds, AreFaulted, AreFaultsOf, AreNamedBy, EndsAtStart, EndsPlainly, GoesFaulted, HasFaultsBy, HasNoCycle, HasNoStartFault, IsCycleFault, IsFaulted, IsFaultedAt, IsFirstBy, IsPlain, IsPlainEnd, IsStartEnd, IsUnstarted, IsWithout, LeadsFaulted, MayEnd, MayStandBeside, SiteKeepsFaulted, StandsBeside, TellsFaulted, TurnsFaulted, none_yet, has_started, was_done, is_told, is_untold, stands_beside, is_kept, is_lost, out_behind, none_added, out_added, was_lost, was_told, none_told, cycle_told, plain_told}
 use Rattle.build_run.specs.Sites.{most_jobs}
 use Rattle.build_run.specs.Unmade.{Since}
 use Rattle.build_run.specs.declared.account.Account.{Account}
@@ -111,65 +111,65 @@ fault_out wanting faults (out_behind a) = out_added (fault_out wanting faults a)
 
 -- ---- what may stand beside the endings
 
-pub plain_beside : (s : Setting) (before : Tree) (entries : List Entry) (f : BuildFault) → IsPlain f → MayStandBeside s before entries f
-plain_beside s before entries (fault.Missing node target) h = absurd h
-plain_beside s before entries (fault.Cycle paths) h = h
-plain_beside s before entries (fault.ActionFailed target code) h = h
-plain_beside s before entries (fault.TreeFault path) h = tt
-plain_beside s before entries (fault.StartFault target) h = absurd h
-plain_beside s before entries fault.StoreFault h = tt
-plain_beside s before entries fault.OutFault h = tt
-plain_beside s before entries (fault.TooLarge path size) h = tt
-plain_beside s before entries (fault.TooMany what count) h = tt
+pub plain_beside : (o : Outset) (entries : List Entry) (f : BuildFault) → IsPlain f → MayStandBeside o entries f
+plain_beside o entries (fault.Missing node target) h = absurd h
+plain_beside o entries (fault.Cycle paths) h = h
+plain_beside o entries (fault.ActionFailed target code) h = h
+plain_beside o entries (fault.TreeFault path) h = tt
+plain_beside o entries (fault.StartFault target) h = absurd h
+plain_beside o entries fault.StoreFault h = tt
+plain_beside o entries fault.OutFault h = tt
+plain_beside o entries (fault.TooLarge path size) h = tt
+plain_beside o entries (fault.TooMany what count) h = tt
 
-pub plain_stands : (s : Setting) (before : Tree) (entries : List Entry) (front : List BuildFault) (f : BuildFault) → IsPlain f → StandsBeside s before entries front f
-plain_stands s before entries front (fault.Missing node target) h = absurd h
-plain_stands s before entries front (fault.Cycle paths) h = absurd h
-plain_stands s before entries front (fault.ActionFailed target code) h = h
-plain_stands s before entries front (fault.TreeFault path) h = tt
-plain_stands s before entries front (fault.StartFault target) h = absurd h
-plain_stands s before entries front fault.StoreFault h = tt
-plain_stands s before entries front fault.OutFault h = tt
-plain_stands s before entries front (fault.TooLarge path size) h = tt
-plain_stands s before entries front (fault.TooMany what count) h = tt
+pub plain_stands : (o : Outset) (entries : List Entry) (front : List BuildFault) (f : BuildFault) → IsPlain f → StandsBeside o entries front f
+plain_stands o entries front (fault.Missing node target) h = absurd h
+plain_stands o entries front (fault.Cycle paths) h = absurd h
+plain_stands o entries front (fault.ActionFailed target code) h = h
+plain_stands o entries front (fault.TreeFault path) h = tt
+plain_stands o entries front (fault.StartFault target) h = absurd h
+plain_stands o entries front fault.StoreFault h = tt
+plain_stands o entries front fault.OutFault h = tt
+plain_stands o entries front (fault.TooLarge path size) h = tt
+plain_stands o entries front (fault.TooMany what count) h = tt
 
-cycle_stands : (s : Setting) (before : Tree) (entries : List Entry) (front : List BuildFault) (f : BuildFault) → HasNoCycle front → IsCycleFault f →
-    StandsBeside s before entries front f
-cycle_stands s before entries front (fault.Missing node target) none h = absurd h
-cycle_stands s before entries front (fault.Cycle paths) none h = none
-cycle_stands s before entries front (fault.ActionFailed target code) none h = h
-cycle_stands s before entries front (fault.TreeFault path) none h = tt
-cycle_stands s before entries front (fault.StartFault target) none h = absurd h
-cycle_stands s before entries front fault.StoreFault none h = tt
-cycle_stands s before entries front fault.OutFault none h = tt
-cycle_stands s before entries front (fault.TooLarge path size) none h = tt
-cycle_stands s before entries front (fault.TooMany what count) none h = tt
+cycle_stands : (o : Outset) (entries : List Entry) (front : List BuildFault) (f : BuildFault) → HasNoCycle front → IsCycleFault f →
+    StandsBeside o entries front f
+cycle_stands o entries front (fault.Missing node target) none h = absurd h
+cycle_stands o entries front (fault.Cycle paths) none h = none
+cycle_stands o entries front (fault.ActionFailed target code) none h = h
+cycle_stands o entries front (fault.TreeFault path) none h = tt
+cycle_stands o entries front (fault.StartFault target) none h = absurd h
+cycle_stands o entries front fault.StoreFault none h = tt
+cycle_stands o entries front fault.OutFault none h = tt
+cycle_stands o entries front (fault.TooLarge path size) none h = tt
+cycle_stands o entries front (fault.TooMany what count) none h = tt
 
-beside_stands : (s : Setting) (before : Tree) (entries : List Entry) (front : List BuildFault) (f : BuildFault) → MayStandBeside s before entries f →
-    StandsBeside s before entries front f
-beside_stands s before entries front (fault.Missing node target) h = h
-beside_stands s before entries front (fault.Cycle paths) h = absurd h
-beside_stands s before entries front (fault.ActionFailed target code) h = h
-beside_stands s before entries front (fault.TreeFault path) h = tt
-beside_stands s before entries front (fault.StartFault target) h = h
-beside_stands s before entries front fault.StoreFault h = tt
-beside_stands s before entries front fault.OutFault h = tt
-beside_stands s before entries front (fault.TooLarge path size) h = tt
-beside_stands s before entries front (fault.TooMany what count) h = tt
+beside_stands : (o : Outset) (entries : List Entry) (front : List BuildFault) (f : BuildFault) → MayStandBeside o entries f →
+    StandsBeside o entries front f
+beside_stands o entries front (fault.Missing node target) h = h
+beside_stands o entries front (fault.Cycle paths) h = absurd h
+beside_stands o entries front (fault.ActionFailed target code) h = h
+beside_stands o entries front (fault.TreeFault path) h = tt
+beside_stands o entries front (fault.StartFault target) h = h
+beside_stands o entries front fault.StoreFault h = tt
+beside_stands o entries front fault.OutFault h = tt
+beside_stands o entries front (fault.TooLarge path size) h = tt
+beside_stands o entries front (fault.TooMany what count) h = tt
 
 -- whatever the log goes on with, where no start is told of, or none is unstarted any less
-beside_on : (s : Setting) (before : Tree) (entries more : List Entry) (f : BuildFault) →
-    ((target : Path) → f ≡ fault.StartFault target → IsUnstarted s entries target → IsUnstarted s more target) → MayStandBeside s before entries f →
-    MayStandBeside s before more f
-beside_on s before entries more (fault.Missing node target) on h = h
-beside_on s before entries more (fault.Cycle paths) on h = h
-beside_on s before entries more (fault.ActionFailed target code) on h = h
-beside_on s before entries more (fault.TreeFault path) on h = tt
-beside_on s before entries more (fault.StartFault target) on h = on target refl h
-beside_on s before entries more fault.StoreFault on h = tt
-beside_on s before entries more fault.OutFault on h = tt
-beside_on s before entries more (fault.TooLarge path size) on h = tt
-beside_on s before entries more (fault.TooMany what count) on h = tt
+beside_on : (o : Outset) (entries more : List Entry) (f : BuildFault) →
+    ((target : Path) → f ≡ fault.StartFault target → IsUnstarted o entries target → IsUnstarted o more target) → MayStandBeside o entries f →
+    MayStandBeside o more f
+beside_on o entries more (fault.Missing node target) on h = h
+beside_on o entries more (fault.Cycle paths) on h = h
+beside_on o entries more (fault.ActionFailed target code) on h = h
+beside_on o entries more (fault.TreeFault path) on h = tt
+beside_on o entries more (fault.StartFault target) on h = on target refl h
+beside_on o entries more fault.StoreFault on h = tt
+beside_on o entries more fault.OutFault on h = tt
+beside_on o entries more (fault.TooLarge path size) on h = tt
+beside_on o entries more (fault.TooMany what count) on h = tt
 
 -- ---- plain ends
 
@@ -246,8 +246,8 @@ module _ (entries : List Entry) (id : ℕ) (outcome : Outcome) where
     | inr h ↦ not_ending h
   ]
 
-  unstarted_ended : (s : Setting) (target : Path) → IsUnstarted s entries target → IsUnstarted s (entries ++ Finished id outcome ∷ []) target
-  unstarted_ended s target u = record { rule = u.rule; own = u.own; none = λ job counts n makes. u.none job counts (start_before n) makes }
+  unstarted_ended : (s : Setting) (target : Path) → IsUnstarted o entries target → IsUnstarted s (entries ++ Finished id outcome ∷ []) target
+  unstarted_ended o target u = record { rule = u.rule; own = u.own; starts = u.starts; none = λ job counts n makes. u.none job counts (start_before n) makes }
 
   named_ended : (g : RuleGraph) → AreNamedBy g entries → AreNamedBy g (entries ++ Finished id outcome ∷ [])
   named_ended g named job counts n = named job counts (start_before n)
@@ -297,7 +297,7 @@ adds_no_start wanting f faults (out_behind {more} a) none other =
 module _ (o : Outset) (g : RuleGraph) (entries : List Entry) (old new : Account) (want : KeepsWant old new)
     (ended : new.is_ended ≡ false → old.is_ended ≡ false) (has : AreFaulted o g old entries) where
   abbrev May : List BuildFault → BuildFault → Type 0
-  May faults f = MayStandBeside (setting_at o) o.before.tree entries f
+  May faults f = MayStandBeside o entries f
 
   still : AreFaultsOf (IsFirstBy g) May new.memory entries old.faults.items
   still = faults_as (IsFirstBy g) (IsFirstBy g) May May old.memory new.memory entries old.faults.items (wants_on old.memory new.memory want)
@@ -312,7 +312,7 @@ module _ (o : Outset) (g : RuleGraph) (entries : List Entry) (old new : Account)
   }
 
   -- a fault more was
-  pub faulted_more : (f : BuildFault) → MayStandBeside (setting_at o) o.before.tree entries f →
+  pub faulted_more : (f : BuildFault) → MayStandBeside o entries f →
       ((target : Path) → f ≡ fault.StartFault target → new.is_ended ≡ true) → AddsFault old f new → AreFaulted o g new entries
   faulted_more f so over adds = record {
     named = has.named;
@@ -324,13 +324,13 @@ module _ (o : Outset) (g : RuleGraph) (entries : List Entry) (old new : Account)
   -- a job ended
   module _ (id : ℕ) (outcome : Outcome) where
     abbrev After : List BuildFault → BuildFault → Type 0
-    After faults f = MayStandBeside (setting_at o) o.before.tree (entries ++ Finished id outcome ∷ []) f
+    After faults f = MayStandBeside o (entries ++ Finished id outcome ∷ []) f
 
     before : AreFaultsOf (IsFirstBy g) After new.memory entries old.faults.items
     before = faults_as (IsFirstBy g) (IsFirstBy g) May After old.memory new.memory entries old.faults.items (wants_on old.memory new.memory want)
         (λ id outcome target m named. named)
-        (λ front f h so. beside_on (setting_at o) o.before.tree entries (entries ++ Finished id outcome ∷ []) f
-        (λ target e u. unstarted_ended entries id outcome (setting_at o) target u) so) (λ e m. m) (λ f h. h) has.are
+        (λ front f h so. beside_on o entries (entries ++ Finished id outcome ∷ []) f
+        (λ target e u. unstarted_ended entries id outcome o target u) so) (λ e m. m) (λ f h. h) has.are
 
     -- well
     pub faulted_done : outcome ≡ Done → new.faults.items ≡ old.faults.items → AreFaulted o g new (entries ++ Finished id outcome ∷ [])
@@ -369,7 +369,7 @@ module _ (o : Outset) (g : RuleGraph) (entries : List Entry) (old new : Account)
   -- a job started, before an end came
   module _ (job : Job) (at : Counts) where
     abbrev Behind : List BuildFault → BuildFault → Type 0
-    Behind faults f = MayStandBeside (setting_at o) o.before.tree (entries ++ Started job at ∷ []) f
+    Behind faults f = MayStandBeside o (entries ++ Started job at ∷ []) f
 
     pub faulted_started : old.is_ended ≡ false → new.faults.items ≡ old.faults.items →
         ((target : Path) × (first_target_of g job.id ≡ Some target) × (slice_get job.targets 0 ≡ Some target)) →
@@ -380,7 +380,7 @@ module _ (o : Outset) (g : RuleGraph) (entries : List Entry) (old new : Account)
           (has_started job at
           (faults_as (IsFirstBy g) (IsFirstBy g) May Behind old.memory new.memory entries old.faults.items (wants_on old.memory new.memory want)
           (λ id outcome target m named. named)
-          (λ front f h so. beside_on (setting_at o) o.before.tree entries (entries ++ Started job at ∷ []) f
+          (λ front f h so. beside_on o entries (entries ++ Started job at ∷ []) f
           (λ target e u. absurd (has.calm going target (subst (λ (x : BuildFault). Contains old.faults.items x) e h))) so) (λ e m. m) (λ f h. h) has.are));
       calm = λ after. subst (λ (l : List BuildFault). HasNoStartFault l) (sym same) (has.calm going);
     }
@@ -391,8 +391,8 @@ pub faulted_grown : (o : Outset) (g h : RuleGraph) (account : Account) (entries 
 faulted_grown o g h account entries grows has = record {
   named = λ job counts m.
       let own = has.named job counts m in (own.0, names_grow g h grows job.id own.0 own.1, own.2);
-  are = faults_as (IsFirstBy g) (IsFirstBy h) (λ faults f. MayStandBeside (setting_at o) o.before.tree entries f)
-      (λ faults f. MayStandBeside (setting_at o) o.before.tree entries f) account.memory account.memory entries account.faults.items (λ e. e)
+  are = faults_as (IsFirstBy g) (IsFirstBy h) (λ faults f. MayStandBeside o entries f)
+      (λ faults f. MayStandBeside o entries f) account.memory account.memory entries account.faults.items (λ e. e)
       (λ id outcome target m named. names_grow g h grows id target named) (λ front f k so. so) (λ e m. m) (λ f k. k) has.are;
   calm = has.calm;
 }
@@ -415,25 +415,25 @@ no_cycle_told target Broken paths e = cc e
 no_cycle_told target NoMemory paths e = cc e
 
 -- while rules are decided no cycle is told
-no_cycle : (IsFirst : ℕ → Path → Type 0) (s : Setting) (tree : Tree) (all : List Entry) (wanting : Bool) {entries : List Entry} {faults : List BuildFault} →
-    AreFaultsOf IsFirst (λ front f. MayStandBeside s tree all f) wanting entries faults → HasNoCycle faults
-no_cycle IsFirst s tree all wanting none_yet = none_at_all
-no_cycle IsFirst s tree all wanting (has_started job counts h) = no_cycle IsFirst s tree all wanting h
-no_cycle IsFirst s tree all wanting (was_done id h) = no_cycle IsFirst s tree all wanting h
-no_cycle IsFirst s tree all wanting (is_told {entries} {faults} id outcome target f named is h) =
-    no_cycle_more faults f (no_cycle IsFirst s tree all wanting h) (λ paths e. no_cycle_told target outcome paths (is ∙ ap Some e))
-no_cycle IsFirst s tree all wanting (is_untold id outcome lacking h) = no_cycle IsFirst s tree all wanting h
-no_cycle IsFirst s tree all wanting (stands_beside {entries} {faults} f so h) =
-    no_cycle_more faults f (no_cycle IsFirst s tree all wanting h) (λ paths e. subst (λ (x : BuildFault). MayStandBeside s tree all x) e so)
+no_cycle : (IsFirst : ℕ → Path → Type 0) (o : Outset) (all : List Entry) (wanting : Bool) {entries : List Entry} {faults : List BuildFault} →
+    AreFaultsOf IsFirst (λ front f. MayStandBeside o all f) wanting entries faults → HasNoCycle faults
+no_cycle IsFirst o all wanting none_yet = none_at_all
+no_cycle IsFirst o all wanting (has_started job counts h) = no_cycle IsFirst o all wanting h
+no_cycle IsFirst o all wanting (was_done id h) = no_cycle IsFirst o all wanting h
+no_cycle IsFirst o all wanting (is_told {entries} {faults} id outcome target f named is h) =
+    no_cycle_more faults f (no_cycle IsFirst o all wanting h) (λ paths e. no_cycle_told target outcome paths (is ∙ ap Some e))
+no_cycle IsFirst o all wanting (is_untold id outcome lacking h) = no_cycle IsFirst o all wanting h
+no_cycle IsFirst o all wanting (stands_beside {entries} {faults} f so h) =
+    no_cycle_more faults f (no_cycle IsFirst o all wanting h) (λ paths e. subst (λ (x : BuildFault). MayStandBeside o all x) e so)
 
 module _ (o : Outset) (g : RuleGraph) (entries : List Entry) (old new : Account) (want : KeepsWant old new) (has : AreFaulted o g old entries) where
   abbrev Ends : List BuildFault → BuildFault → Type 0
-  Ends faults f = StandsBeside (setting_at o) o.before.tree entries faults f
+  Ends faults f = StandsBeside o entries faults f
 
   at_last : AreFaultsOf (IsFirstBy g) Ends new.memory entries old.faults.items
-  at_last = faults_as (IsFirstBy g) (IsFirstBy g) (λ faults f. MayStandBeside (setting_at o) o.before.tree entries f) Ends old.memory new.memory entries
+  at_last = faults_as (IsFirstBy g) (IsFirstBy g) (λ faults f. MayStandBeside o entries f) Ends old.memory new.memory entries
       old.faults.items (wants_on old.memory new.memory want) (λ id outcome target m named. named)
-      (λ front f h so. beside_stands (setting_at o) o.before.tree entries front f so) (λ e m. m) (λ f h. h) has.are
+      (λ front f h so. beside_stands o entries front f so) (λ e m. m) (λ f h. h) has.are
 
   pub closes_faulted : AddsCycle old new → HasFaultsBy o g new entries
   closes_faulted (none_told same) = record {
@@ -443,13 +443,13 @@ module _ (o : Outset) (g : RuleGraph) (entries : List Entry) (old new : Account)
   closes_faulted (cycle_told f is adds) = record {
     named = has.named;
     are = adds_on (IsFirstBy g) Ends (λ front. tt) new.memory f entries old.faults.items
-        (cycle_stands (setting_at o) o.before.tree entries old.faults.items f
-        (no_cycle (IsFirstBy g) (setting_at o) o.before.tree entries old.memory has.are) is) adds at_last;
+        (cycle_stands o entries old.faults.items f
+        (no_cycle (IsFirstBy g) o entries old.memory has.are) is) adds at_last;
   }
   closes_faulted (plain_told f is adds) = record {
     named = has.named;
     are = adds_on (IsFirstBy g) Ends (λ front. tt) new.memory f entries old.faults.items
-        (plain_stands (setting_at o) o.before.tree entries old.faults.items f is) adds at_last;
+        (plain_stands o entries old.faults.items f is) adds at_last;
   }
 
 -- ---- since a build began
@@ -461,13 +461,13 @@ module _ (o : Outset) (g : RuleGraph) (log : List Entry) where
   -- a plain end may come
   pub plain_end : (account : Account) (e : ListEnd) → IsFaultedAt o g account log → IsPlainEnd e → MayEnd o log e
   plain_end account (end.Fault f) has plain =
-      since_as o.before.log log (AreFaulted o g account) (λ entries. MayStandBeside (setting_at o) o.before.tree entries f)
-      (λ entries are. plain_beside (setting_at o) o.before.tree entries f plain) has
+      since_as o.before.log log (AreFaulted o g account) (λ entries. MayStandBeside o entries f)
+      (λ entries are. plain_beside o entries f plain) has
   plain_end account end.Memory has plain = tt
 
   -- or that of a start
   pub start_end : (account : Account) (h : RuleGraph) (rule : ℕ) (e : ListEnd) → IsFaultedAt o g account log → IsStartEnd h rule e →
-      ((target : Path) → first_target_of h rule ≡ Some target → Since o.before.log log (λ entries. IsUnstarted (setting_at o) entries target)) → MayEnd o log e
+      ((target : Path) → first_target_of h rule ≡ Some target → Since o.before.log log (λ entries. IsUnstarted o entries target)) → MayEnd o log e
   start_end account h rule (end.Fault (fault.Missing node target)) has is none = absurd is
   start_end account h rule (end.Fault (fault.Cycle paths)) has is none = absurd is
   start_end account h rule (end.Fault (fault.ActionFailed target code)) has is none = absurd is
@@ -487,21 +487,21 @@ module _ (o : Outset) (g : RuleGraph) (log : List Entry) where
     -- a plain fault was reported
     pub since_plain : (f : BuildFault) → IsPlain f → AddsFault old f new → IsFaultedAt o g new log
     since_plain f plain adds = since_as o.before.log log (AreFaulted o g old) (AreFaulted o g new)
-        (λ entries are. faulted_more o g entries old new want ended are f (plain_beside (setting_at o) o.before.tree entries f plain)
+        (λ entries are. faulted_more o g entries old new want ended are f (plain_beside o entries f plain)
         (λ target e. absurd (subst (λ (x : BuildFault). IsPlain x) e plain)) adds) has
 
     -- or one that may be
     pub since_told : (f : BuildFault) → MayEnd o log (end.Fault f) → ((target : Path) → f ≡ fault.StartFault target → new.is_ended ≡ true) →
         AddsFault old f new → IsFaultedAt o g new log
-    since_told f may over adds = since_both o.before.log log (λ entries. MayStandBeside (setting_at o) o.before.tree entries f) (AreFaulted o g old)
+    since_told f may over adds = since_both o.before.log log (λ entries. MayStandBeside o entries f) (AreFaulted o g old)
         (AreFaulted o g new) (λ entries so are. faulted_more o g entries old new want ended are f so over adds) may has
 
     -- or that a dependency is missing
-    pub since_missing : (f : BuildFault) (node target : Path) → f ≡ fault.Missing node target → IsLacking (setting_at o) o.before.tree node target →
+    pub since_missing : (f : BuildFault) (node target : Path) → f ≡ fault.Missing node target → IsWithout o node target →
         AddsFault old f new → IsFaultedAt o g new log
     since_missing f node target is lacks adds = since_as o.before.log log (AreFaulted o g old) (AreFaulted o g new)
         (λ entries are. faulted_more o g entries old new want ended are f
-        (subst (λ (x : BuildFault). MayStandBeside (setting_at o) o.before.tree entries x) (sym is) lacks)
+        (subst (λ (x : BuildFault). MayStandBeside o entries x) (sym is) lacks)
         (λ other e. missing_start node target other (sym is ∙ e)) adds) has
 
   pub since_entry : (log_now : List Entry) (old new : Account) (entry : Entry) → log_now ≡ log ++ entry ∷ [] →

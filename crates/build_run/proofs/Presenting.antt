@@ -12,8 +12,8 @@ use Rattle.rule_graph.specs.Graphs.{path_of}
 use Rattle.task_plan.specs.Settled.{deps_of}
 use Rattle.task_plan.specs.declared.want.PlanEvent.TheVariants as told
 use Rattle.build_model.specs.Rules.{Path, Rule, Among, here}
-use Rattle.build_model.specs.Steps.{IsMissing, Lacks}
-use Rattle.build_model.proofs.Lists.{true_false, among_same, among_left, among_right}
+use Rattle.build_model.specs.Steps.{IsLacking, Lacks}
+use Rattle.build_model.proofs.Lists.{true_false, among_same, among_left, among_right, some_same}
 use Rattle.build_means.specs.Grown.{Begun, rule_numbered}
 use Rattle.build_means.specs.Present.{IsFirstAbsent}
 use Rattle.build_means.specs.Rules.{paths_of}
@@ -22,12 +22,15 @@ use Rattle.build_files.specs.Presence.{AreStill, IsPresentFor}
 use Rattle.build_files.specs.declared.end.ListEnd.{ListEnd}
 use Rattle.build_files.specs.declared.record.Present.{Present}
 use Rattle.build_files.specs.declared.record.Present.TheVariants as present
+use Rattle.plan_means.proofs.Deciding.{may_be_decided}
 use Rattle.scons_report.proofs.Found.{path_at}
+use Rattle.turn_means.specs.Recording.{build_at}
+use Rattle.turn_means.proofs.Deciding.{tied}
 use Rattle.turn_means.specs.Standing.{Outset, IsOutset, begun_at, setting_at, Standing, Knows, IsAt}
 use Rattle.turn_means.specs.Laws.{HasMet, IsChosen, IsTold, IsWeighed}
 use Rattle.turn_means.proofs.Turns.{lacks}
 use Rattle.build_run.specs.Along.{GoesOn, IsAlong, IsDue, IsOn, KeepsEnds, Presents, is_faulted, standing_of}
-use Rattle.build_run.specs.Faulted.{IsLacking}
+use Rattle.build_run.specs.Faulted.{IsWithout}
 use Rattle.build_run.specs.Sites.{most_jobs}
 use Rattle.build_run.specs.declared.building.Options.{Options}
 use Rattle.build_run.specs.declared.site.Run.{Run}
@@ -160,22 +163,32 @@ module _ {W O E : Type 0} (m : Meaning W) (o : Outset) (outset : IsOutset o) (ol
       goes_with true now stays e = true_false (sym (stays refl) ∙ e)
       goes_with false now stays e = refl
 
-  -- that one was missing as the build began
+  -- on this way the rule lacks it, and it was missing as the build began
   pub lacks_then : (node : NodeId) → result ≡ Ok (present.Lacks node) → (path target : Path) → slice_get old.graph.now.nodes node.0 ≡ Some path →
-      first_target_of old.graph.now rule.0 ≡ Some target → IsLacking (setting_at o) o.before.tree path target
+      first_target_of old.graph.now rule.0 ≡ Some target → IsWithout o path target
   lacks_then node ok path target at named =
       let is = read (present.Lacks node) ok model.0 model.1 in
+      let there = path_of old.graph.now.nodes node in
       let absent = is.1 (looked_for o outset along.on.jobs (standing_of m old) along.on.past along.on.at.way known rule chosen.next node is.0) in
       let none = absent.is_missing in
-      record {
+      let may = may_be_decided (begun_at o) old.graph.now o.wanted.requested (build_at o (m.around old.world.now)) along.on.past old.run.now.plan
+      (tied o outset along.on.jobs (standing_of m old) along.on.past along.on.at.way known) rule.0 chosen.next.can chosen.next.goes in
+      subst (λ (p : Path). IsWithout o p target) (path_at old.graph.now node path at) (record {
         rule = model.0;
         own = own_first (begun_at o) old.graph.now known.now rule.0 model.0 model.1 target named;
-        missing = subst (λ (p : Path). IsMissing (setting_at o) o.before.tree p) (path_at old.graph.now node path at) (record {
+        lacks = record {
+          jobs = along.on.jobs;
+          around = m.around old.world.now;
+          past = along.on.past;
+          way = along.on.at.way;
+          lacks = subst (λ (r : Rule). IsLacking (setting_at o) (build_at o (m.around old.world.now)) along.on.past r there) (some_same (sym may.is ∙ model.1))
+              (may.lacks there absent);
+        };
+        missing = record {
           no_rule = none.no_rule;
-          no_file = source_same o outset along.on.jobs (m.around old.world.now) along.on.past along.on.at.way (path_of old.graph.now.nodes node) none.no_rule
-              ∙ none.no_file;
-        });
-      }
+          no_file = source_same o outset along.on.jobs (m.around old.world.now) along.on.past along.on.at.way there none.no_rule ∙ none.no_file;
+        };
+      })
 
 -- behind a fault of that the build goes on, or not
 module _ {W O E : Type 0} (m : Meaning W) (o : Outset) (outset : IsOutset o) (old last : Site W O E) (along : IsAlong m o old)

@@ -19,7 +19,7 @@ use Rattle.build_files.specs.Firsts.{first_target_of}
 use Rattle.build_files.specs.Causes.{HasEndCause}
 use Rattle.build_files.specs.declared.end.ListEnd.{ListEnd}
 use Rattle.build_files.specs.declared.end.ListEnd.TheVariants as end
-use Rattle.turn_means.specs.Standing.{Outset, setting_at}
+use Rattle.turn_means.specs.Standing.{Outset}
 use Rattle.build_run.specs.Along.{is_faulted}
 use Rattle.build_run.specs.Faulted.{AddsCycle, AddsEnd, AreFaulted, AreFaultsOf, HasFaultsBy, HasNoStartFault, IsFaulted, IsFirstBy, IsFirstOf, IsPlain, IsPlainEnd, MayStandBeside, StandsBeside, none_yet, has_started, cycle_told, none_told, plain_told}
 use Rattle.build_run.specs.FaultTexts.{SameTold}
@@ -35,7 +35,7 @@ use Rattle.build_run.proofs.Faulted.{adds_on, adds_same, faults_as, plain_look, 
 none_faulted : (memory : Bool) (faults : List BuildFault) → (memory || nat_lt 0 (length faults)) ≡ false → faults ≡ []
 none_faulted true faults e = true_false e
 none_faulted false [] e = refl
-none_faulted false (f ∷ faults) e = absurd (let none = grind (arith, nat_tests, e) in none)
+none_faulted false (f ∷ faults) e = absurd (let none : ⊥ = grind (arith, nat_tests, e) in none)
 
 no_start_in : (target : Path) → Contains [] (fault.StartFault target) → ⊥
 no_start_in target h = absurd (let lt = h.1 in omega (arith, lt))
@@ -52,7 +52,7 @@ first_faulted m o site ready =
       so = record {
         named = λ job counts n. elim n [ ];
         are = subst (λ (faults : List BuildFault).
-            AreFaultsOf (IsFirstBy site.graph.now) (λ front f. MayStandBeside (setting_at o) o.before.tree [] f) account.memory [] faults) (sym none) none_yet;
+            AreFaultsOf (IsFirstBy site.graph.now) (λ front f. MayStandBeside o [] f) account.memory [] faults) (sym none) none_yet;
         calm = λ going. subst (λ (faults : List BuildFault). HasNoStartFault faults) (sym none) no_start_in;
       };
     }
@@ -83,19 +83,19 @@ plain_take a b (end.Fault (fault.TooMany what count)) h = tt
 plain_take a b end.Memory h = tt
 
 -- then nothing else is reported
-pub refused_faults : (IsFirst : ℕ → Path → Type 0) (s : Setting) (before : Tree) (entries : List Entry) (e : ListEnd) (old new : Account) → IsPlainEnd e → AddsEnd old e new →
-    old.faults.items ≡ [] → AreFaultsOf IsFirst (StandsBeside s before entries) new.memory [] new.faults.items
-refused_faults IsFirst s before entries (end.Fault f) old new plain adds none =
-    adds_on IsFirst (StandsBeside s before entries) (λ front. tt) new.memory f [] old.faults.items (plain_stands s before entries old.faults.items f plain) adds
-    (subst (λ (faults : List BuildFault). AreFaultsOf IsFirst (StandsBeside s before entries) new.memory [] faults) (sym none) none_yet)
-refused_faults IsFirst s before entries end.Memory old new plain same none =
-    subst (λ (faults : List BuildFault). AreFaultsOf IsFirst (StandsBeside s before entries) new.memory [] faults) (sym (same ∙ none)) none_yet
+pub refused_faults : (IsFirst : ℕ → Path → Type 0) (o : Outset) (entries : List Entry) (e : ListEnd) (old new : Account) → IsPlainEnd e → AddsEnd old e new →
+    old.faults.items ≡ [] → AreFaultsOf IsFirst (StandsBeside o entries) new.memory [] new.faults.items
+refused_faults IsFirst o entries (end.Fault f) old new plain adds none =
+    adds_on IsFirst (StandsBeside o entries) (λ front. tt) new.memory f [] old.faults.items (plain_stands o entries old.faults.items f plain) adds
+    (subst (λ (faults : List BuildFault). AreFaultsOf IsFirst (StandsBeside o entries) new.memory [] faults) (sym none) none_yet)
+refused_faults IsFirst o entries end.Memory old new plain same none =
+    subst (λ (faults : List BuildFault). AreFaultsOf IsFirst (StandsBeside o entries) new.memory [] faults) (sym (same ∙ none)) none_yet
 
-pub refused_reported : (s : Setting) (before : Tree) (entries : List Entry) → entries ≡ [] → (e : ListEnd) (old new : Account) → IsPlainEnd e → AddsEnd old e new →
-    old.faults.items ≡ [] → AreFaultsOf (IsFirstOf entries) (StandsBeside s before entries) new.memory entries new.faults.items
-refused_reported s before entries empty e old new plain adds none =
-    subst (λ (l : List Entry). AreFaultsOf (IsFirstOf entries) (StandsBeside s before entries) new.memory l new.faults.items) (sym empty)
-    (refused_faults (IsFirstOf entries) s before entries e old new plain adds none)
+pub refused_reported : (o : Outset) (entries : List Entry) → entries ≡ [] → (e : ListEnd) (old new : Account) → IsPlainEnd e → AddsEnd old e new →
+    old.faults.items ≡ [] → AreFaultsOf (IsFirstOf entries) (StandsBeside o entries) new.memory entries new.faults.items
+refused_reported o entries empty e old new plain adds none =
+    subst (λ (l : List Entry). AreFaultsOf (IsFirstOf entries) (StandsBeside o entries) new.memory l new.faults.items) (sym empty)
+    (refused_faults (IsFirstOf entries) o entries e old new plain adds none)
 
 -- ---- by the log of its steps
 
@@ -137,13 +137,13 @@ module _ (IsJob : Rule → Job → Type 0) (AreAt : Counts → Type 0) where
   -- what is reported comes of these entries
   pub reported : (o : Outset) (g : RuleGraph) (account : Account) (steps : List Step) (entries log : List Entry) → AreEntries IsJob AreAt steps entries →
       log ≡ o.before.log ++ entries → Since o.before.log log (HasFaultsBy o g account) →
-      AreFaultsOf (IsFirstOf entries) (StandsBeside (setting_at o) o.before.tree entries) account.memory entries account.faults.items
+      AreFaultsOf (IsFirstOf entries) (StandsBeside o entries) account.memory entries account.faults.items
   reported o g account steps entries log are grown since =
       faults_as (IsFirstBy g) (IsFirstOf entries) Beside Beside account.memory account.memory entries account.faults.items (λ e. e)
       named (λ front f h so. so) (λ e n. n) (λ f h. h) has.are
     where
       Beside : List BuildFault → BuildFault → Type 0
-      Beside = StandsBeside (setting_at o) o.before.tree entries
+      Beside = StandsBeside o entries
 
       has : HasFaultsBy o g account entries
       has = subst (λ (l : List Entry). HasFaultsBy o g account l) (append_cancel_left o.before.log since.entries entries (sym since.grown ∙ grown)) since.so

@@ -30,11 +30,12 @@ use Rattle.run_means.specs.Ways.{IsWay}
 use Rattle.run_means.proofs.Lists.{among_contains}
 use Rattle.turn_means.specs.Laws.{IsJobFrom, is_due_now}
 use Rattle.turn_means.specs.Standing.{Outset, IsOutset, Knows, begun_at, setting_at}
+use Rattle.turn_means.proofs.Deciding.{may_begin}
 use Rattle.turn_means.proofs.Running.{begun_place, makes_each, seen_so}
 use Rattle.build_run.specs.Along.{IsAlong, IsDue, standing_of}
 use Rattle.build_run.specs.Faulted.{IsFirstTarget, IsUnstarted}
 use Rattle.build_run.specs.Unmade.{HasNoMaker, Since}
-use Rattle.build_run.specs.Watches.{Covers, Watch, Never}
+use Rattle.build_run.specs.Watches.{Covers, MayStart, Watch, Never}
 use Rattle.build_run.specs.declared.site.Site.{Site}
 use Rattle.build_run.proofs.Deciding.{due_allows}
 use Rattle.build_run.proofs.Skipping.{named_first}
@@ -117,15 +118,22 @@ module _ {W O E : Type 0} (m : Meaning W) (o : Outset) (outset : IsOutset o) (si
   -- no job of it has started
   pub none_started : is_due_now (standing_of m site) due.model rec ≡ true → length (m.around site.world.now).running < jobs_at_once o.wanted.jobs →
       (target : Path) → first_target_of site.graph.now rule.0 ≡ Some target →
-      Since o.before.log (m.around site.world.now).log (λ entries. IsUnstarted (setting_at o) entries target)
+      Since o.before.log (m.around site.world.now).log (λ entries. IsUnstarted o entries target)
   none_started is_due room target named =
       let own = own_first (begun_at o) site.graph.now known.now rule.0 due.model due.weighed.is target named in
       let among = first_among due.model.targets target own.first in
       let allows = due_allows m o outset site along rule rec due is_due room (watch_maker o target)
       (record { start = refl; each = λ r starts minds. absurd minds }) in
+      let starts : MayStart o due.model = record {
+        jobs = along.on.jobs;
+        around = m.around site.world.now;
+        past = along.on.past;
+        way = along.on.at.way;
+        may = may_begin o outset along.on.jobs (standing_of m site) along.on.past along.on.at.way known rule due.model rec due.weighed is_due room;
+      } in
       let since = allows.first
       (subst (λ (paths : List Path). Contains paths target) (sym (ap (λ (x : Record). x.targets) due.weighed.present.is)) (among_contains among)) in
-      record { entries = since.entries; grown = since.grown; so = record { rule = due.model; own = own; none = since.so } }
+      record { entries = since.entries; grown = since.grown; so = record { rule = due.model; own = own; starts = starts; none = since.so } }
 
 -- ---- files that no rule makes
 

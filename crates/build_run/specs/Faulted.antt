@@ -3,7 +3,7 @@
 use Rattle.std.specs.Prelude.{◌≡◌, ◌++◌, ◌∷◌, ◌⊎◌, [], ℕ, Bool, true, false, List, Option, Some, None, Contains, length, slice_get, Result, Ok, Err}
 use Rattle.scons_base.specs.declared.ids.NodeId.{NodeId}
 use Rattle.scons_base.specs.declared.ids.RuleId.{RuleId}
-use Rattle.world_api.specs.Around.{Entry, Started, Finished}
+use Rattle.world_api.specs.Around.{Around, Entry, Started, Finished}
 use Rattle.world_api.specs.Counts.{Counts}
 use Rattle.world_api.specs.Meaning.{Meaning}
 use Rattle.world_api.specs.declared.job.Job.{Job}
@@ -19,18 +19,22 @@ use Rattle.rule_graph.specs.declared.build_fault.BuildFault.{BuildFault}
 use Rattle.rule_graph.specs.declared.build_fault.BuildFault.TheVariants as fault
 use Rattle.task_plan.specs.declared.want.PlanEvent.{PlanEvent}
 use Rattle.task_plan.specs.declared.want.Want.{Want}
-use Rattle.build_model.specs.Rules.{Path, Rule, Setting, Tree, Among}
-use Rattle.build_model.specs.Steps.{IsMissing}
-use Rattle.build_means.specs.Builds.{Wanted, setting_in}
+use Rattle.build_model.specs.Rules.{Path, Rule, Setting, Among}
+use Rattle.build_model.specs.Moments.{Job as Given}
+use Rattle.build_model.specs.Steps.{Step, IsLacking, IsMissing}
+use Rattle.build_means.specs.Builds.{Wanted}
 use Rattle.build_files.specs.Firsts.{first_target_of}
 use Rattle.build_files.specs.declared.end.ListEnd.{ListEnd}
 use Rattle.build_files.specs.declared.end.ListEnd.TheVariants as end
 use Rattle.turn_means.specs.Laws.{is_due_now}
+use Rattle.turn_means.specs.Recording.{IsWayTo, build_at}
 use Rattle.turn_means.specs.Standing.{Outset, IsOutset, setting_at}
 use Rattle.build_run.specs.Along.{IsAlong, IsDue, IsWantedOf, standing_of}
 use Rattle.build_run.specs.Outsets.{wanted_of, HasRun, IsReadyFor}
+use Rattle.build_run.specs.Remembering.{begun_with}
 use Rattle.build_run.specs.Sites.{most_jobs}
 use Rattle.build_run.specs.Unmade.{HasNoMaker, Since}
+use Rattle.build_run.specs.Watches.{MayStart}
 use Rattle.build_run.specs.declared.account.Account.{Account}
 use Rattle.build_run.specs.declared.building.Options.{Options}
 use Rattle.build_run.specs.declared.end.BuildEnd.{BuildEnd}
@@ -73,50 +77,61 @@ pub record IsFirstOf (entries : List Entry) (id : ℕ) (target : Path) : Type 0 
 
 -- ---- faults beside the endings
 
--- this is the first target of a rule
+-- this is the first target of a rule, which makes it
 pub record IsFirstTarget (s : Setting) (rule : Rule) (target : Path) : Type 0 where
   pub makes : s.rule_of target ≡ Some rule
   pub first : slice_get rule.targets 0 ≡ Some target
 
--- the job of a rule didn't start: none of these entries is the start of one that makes its first target
-pub record IsUnstarted (s : Setting) (entries : List Entry) (target : Path) : Type 0 where
+-- The job of a rule couldn't be started: on some way of the build its action may start, as it is needed and due, and none of these
+-- entries is the start of a job that makes its first target.
+pub record IsUnstarted (o : Outset) (entries : List Entry) (target : Path) : Type 0 where
   pub rule : Rule
-  pub own : IsFirstTarget s rule target
+  pub own : IsFirstTarget (setting_at o) rule target
+  pub starts : MayStart o rule
   pub none : HasNoMaker target entries
 
--- a file that no rule makes didn't stand there as the build began, and a rule was to read it
-pub record IsLacking (s : Setting) (before : Tree) (node target : Path) : Type 0 where
+-- on some way of a build that began so a needed rule lacks this file
+pub record MayLack (o : Outset) (rule : Rule) (node : Path) : Type 0 where
+  pub jobs : List Given
+  pub around : Around
+  pub past : List Step
+  pub way : IsWayTo o jobs around past
+  pub lacks : IsLacking (setting_at o) (build_at o around) past rule node
+
+-- A rule lacks a file, which no rule makes, and which didn't stand there as the build began.
+pub record IsWithout (o : Outset) (node target : Path) : Type 0 where
   pub rule : Rule
-  pub own : IsFirstTarget s rule target
-  pub missing : IsMissing s before node
+  pub own : IsFirstTarget (setting_at o) rule target
+  pub lacks : MayLack o rule node
+  pub missing : IsMissing (setting_at o) o.before.tree node
 
 -- no cycle is told
 abbrev pub HasNoCycle : List BuildFault → Type 0
 HasNoCycle faults = (paths : List Path) → Contains faults (fault.Cycle paths) → ⊥
 
 -- What may be told beside the endings while rules are decided: no failed action, and no cycle yet.
-abbrev pub MayStandBeside : Setting → Tree → List Entry → BuildFault → Type 0
-MayStandBeside s before entries (fault.Missing node target) = IsLacking s before node target
-MayStandBeside s before entries (fault.Cycle paths) = ⊥
-MayStandBeside s before entries (fault.ActionFailed target code) = ⊥
-MayStandBeside s before entries (fault.TreeFault path) = Unit {0}
-MayStandBeside s before entries (fault.StartFault target) = IsUnstarted s entries target
-MayStandBeside s before entries fault.StoreFault = Unit {0}
-MayStandBeside s before entries fault.OutFault = Unit {0}
-MayStandBeside s before entries (fault.TooLarge path size) = Unit {0}
-MayStandBeside s before entries (fault.TooMany what count) = Unit {0}
+abbrev pub MayStandBeside : Outset → List Entry → BuildFault → Type 0
+MayStandBeside o entries (fault.Missing node target) = IsWithout o node target
+MayStandBeside o entries (fault.Cycle paths) = ⊥
+MayStandBeside o entries (fault.ActionFailed target code) = ⊥
+MayStandBeside o entries (fault.TreeFault path) = Unit {0}
+MayStandBeside o entries (fault.StartFault target) = IsUnstarted o entries target
+MayStandBeside o entries fault.StoreFault = Unit {0}
+MayStandBeside o entries fault.OutFault = Unit {0}
+MayStandBeside o entries (fault.TooLarge path size) = Unit {0}
+MayStandBeside o entries (fault.TooMany what count) = Unit {0}
 
 -- and at the end: one cycle too
-abbrev pub StandsBeside : Setting → Tree → List Entry → List BuildFault → BuildFault → Type 0
-StandsBeside s before entries faults (fault.Missing node target) = IsLacking s before node target
-StandsBeside s before entries faults (fault.Cycle paths) = HasNoCycle faults
-StandsBeside s before entries faults (fault.ActionFailed target code) = ⊥
-StandsBeside s before entries faults (fault.TreeFault path) = Unit {0}
-StandsBeside s before entries faults (fault.StartFault target) = IsUnstarted s entries target
-StandsBeside s before entries faults fault.StoreFault = Unit {0}
-StandsBeside s before entries faults fault.OutFault = Unit {0}
-StandsBeside s before entries faults (fault.TooLarge path size) = Unit {0}
-StandsBeside s before entries faults (fault.TooMany what count) = Unit {0}
+abbrev pub StandsBeside : Outset → List Entry → List BuildFault → BuildFault → Type 0
+StandsBeside o entries faults (fault.Missing node target) = IsWithout o node target
+StandsBeside o entries faults (fault.Cycle paths) = HasNoCycle faults
+StandsBeside o entries faults (fault.ActionFailed target code) = ⊥
+StandsBeside o entries faults (fault.TreeFault path) = Unit {0}
+StandsBeside o entries faults (fault.StartFault target) = IsUnstarted o entries target
+StandsBeside o entries faults fault.StoreFault = Unit {0}
+StandsBeside o entries faults fault.OutFault = Unit {0}
+StandsBeside o entries faults (fault.TooLarge path size) = Unit {0}
+StandsBeside o entries faults (fault.TooMany what count) = Unit {0}
 
 -- ---- accounts
 
@@ -217,7 +232,7 @@ HasNoStartFault faults = (target : Path) → Contains faults (fault.StartFault t
 -- What is reported comes of these entries; and before an end comes no job couldn't be run or started.
 pub record AreFaulted (o : Outset) (g : RuleGraph) (account : Account) (entries : List Entry) : Type 0 where
   pub named : AreNamedBy g entries
-  pub are : AreFaultsOf (IsFirstBy g) (λ faults f. MayStandBeside (setting_at o) o.before.tree entries f) account.memory entries account.faults.items
+  pub are : AreFaultsOf (IsFirstBy g) (λ faults f. MayStandBeside o entries f) account.memory entries account.faults.items
   pub calm : account.is_ended ≡ false → HasNoStartFault account.faults.items
 
 -- So it is of what a log went on with since a build began.
@@ -233,7 +248,7 @@ SiteKeepsFaulted m old new = m.tells new.world.now → (o : Outset) → IsFaulte
 
 -- an end may be told of then
 abbrev pub MayEnd : Outset → List Entry → ListEnd → Type 0
-MayEnd o log (end.Fault f) = Since o.before.log log (λ entries. MayStandBeside (setting_at o) o.before.tree entries f)
+MayEnd o log (end.Fault f) = Since o.before.log log (λ entries. MayStandBeside o entries f)
 MayEnd o log end.Memory = Unit {0}
 
 abbrev pub LeadsFaulted : {W O E T : Type 0} → Meaning W → Outset → Site W O E → Result T ListEnd → Type 0
@@ -269,7 +284,7 @@ GoesFaulted m old new =
 -- What is reported in the end comes of these entries, by the graph of then.
 pub record HasFaultsBy (o : Outset) (g : RuleGraph) (account : Account) (entries : List Entry) : Type 0 where
   pub named : AreNamedBy g entries
-  pub are : AreFaultsOf (IsFirstBy g) (StandsBeside (setting_at o) o.before.tree entries) account.memory entries account.faults.items
+  pub are : AreFaultsOf (IsFirstBy g) (StandsBeside o entries) account.memory entries account.faults.items
 
 abbrev pub MadeFaulted : {W : Type 0} → Meaning W → RuleGraph → Run → Store → W → Account → Options → RuleGraph → W → Account → Type 0
 MadeFaulted m g run store world account options h new new_account = m.tells new → m.sure new → (o : Outset) →
@@ -281,8 +296,8 @@ MadeFaulted m g run store world account options h new new_account = m.tells new 
 -- whose job couldn't be started, of one that lacks a dependency, of at most one cycle, and of what is of no rule.
 pub record HasFaulted {W : Type 0} (m : Meaning W) (w : Wanted) (map : Map) (old new : W) (behind : Map) (answer : BuildEnd) : Type 0 where
   pub run : HasRun m w map old new behind answer.is_ended
-  pub faults : AreFaultsOf (IsFirstOf run.runs.log.entries) (StandsBeside (setting_in w run.left) run.left.tree run.runs.log.entries) answer.memory
-      run.runs.log.entries answer.faults
+  pub faults : AreFaultsOf (IsFirstOf run.runs.log.entries) (StandsBeside (begun_with w run.kept (m.counts old) run.left) run.runs.log.entries)
+      answer.memory run.runs.log.entries answer.faults
 
 -- So builds do, in a world that tells and is sure, where the requested nodes are the graph's.
 abbrev pub BuildFaults : {W : Type 0} → Meaning W → RuleGraph → List NodeId → Options → Store → W → Store → W → BuildEnd → Type 0

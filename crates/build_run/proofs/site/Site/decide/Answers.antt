@@ -15,8 +15,7 @@ use Rattle.build_run.proofs.Printing.{quiet_looked, quiet_prints, quiet_turn}
 use Rattle.build_run.proofs.Endings.{counts_looked, counts_on}
 use Rattle.build_run.proofs.Faulted.{leads_plainly, plain_exit, plain_inside, plain_look, since_log, since_missing}
 use Rattle.build_run.proofs.Presenting.{lacks_then}
-use Rattle.build_run.specs.Faulted.{IsLacking}
-use Rattle.turn_means.specs.Standing.{setting_at}
+use Rattle.build_run.specs.Faulted.{IsWithout}
 use Rattle.build_run.proofs.site.Site.decide.Goals as goal
 
 pub returns-in_ok-missing-in-Lacks-clause-fails : goal.returns-in_ok-missing-in-Lacks-clause-fails
@@ -235,7 +234,7 @@ returns-in_ok-missing-in-Lacks-clause-faulted g c = λ tells sure o outset along
     let f = c.fail.ensures in
     let none = c.in_ok-missing-in-Lacks.ensures.missing in
     let asks = p.looks.around tells in
-    let lacks : IsLacking (setting_at o) o.before.tree none.path none.target =
+    let lacks : IsWithout o none.path none.target =
     lacks_then m o outset site _ along c.args.rule wanted.0 asks refl refl refl refl p.rest tells (Ok c.in_ok-now.field-0)
     c.in_ok-now.ensures.presents c.in_ok-now.ensures.cause c.in-Lacks.node (cc c.in-Lacks.is) none.path none.target none.at none.named in
     let seen = since_log o site.graph.now (m.around site.world.now).log _ site.account.now asks.log has in

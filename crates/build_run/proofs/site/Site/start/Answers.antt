@@ -39,7 +39,6 @@ use Rattle.rule_graph.specs.declared.build_fault.BuildFault.TheVariants as fault
 use Rattle.build_files.specs.Firsts.{first_target_of}
 use Rattle.build_files.specs.declared.end.ListEnd.TheVariants as list_end
 use Rattle.world_api.specs.Around.{Entry, Started}
-use Rattle.turn_means.specs.Standing.{setting_at}
 use Rattle.build_run.proofs.site.Site.start.Goals as goal
 
 pub returns-then-self-clause-ends : goal.returns-then-self-clause-ends
@@ -591,6 +590,6 @@ returns-clause-faulted g c = λ tells sure o outset along due is_due has.
     (since_kept o site.graph.now before site.account.now now.account.now is.told.memory (λ e. sym is.account.ended ∙ e) has is.told.faults) in
     (subst (λ (of : RuleGraph). IsFaultedAt o of now.account.now after) (sym is.known.graph) kept,
     start_end o site.graph.now after now.account.now site.graph.now job.id _ kept c.in-Err.ensures.faulted
-    (λ target named. since_same o.before.log before after (λ entries. IsUnstarted (setting_at o) entries target) same
+    (λ target named. since_same o.before.log before after (λ entries. IsUnstarted o entries target) same
     (none_started m o outset site along c.args.rule c.args.now due is_due room target
     (ap (λ id. first_target_of site.graph.now id) (sym c.in_ok-job.ensures.id) ∙ named))))
