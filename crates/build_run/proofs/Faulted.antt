@@ -246,7 +246,7 @@ module _ (entries : List Entry) (id : ℕ) (outcome : Outcome) where
     | inr h ↦ not_ending h
   ]
 
-  unstarted_ended : (s : Setting) (target : Path) → IsUnstarted o entries target → IsUnstarted s (entries ++ Finished id outcome ∷ []) target
+  unstarted_ended : (o : Outset) (target : Path) → IsUnstarted o entries target → IsUnstarted o (entries ++ Finished id outcome ∷ []) target
   unstarted_ended o target u = record { rule = u.rule; own = u.own; starts = u.starts; none = λ job counts n makes. u.none job counts (start_before n) makes }
 
   named_ended : (g : RuleGraph) → AreNamedBy g entries → AreNamedBy g (entries ++ Finished id outcome ∷ [])
