@@ -11,6 +11,7 @@ use Rattle.world_api.specs.Printed.{SinkMeaning}
 use Rattle.world_api.specs.declared.hash.Hash.{Hash}
 use Rattle.rule_graph.specs.Graphs.{RuleGraph}
 use Rattle.rule_graph.specs.declared.build_fault.BuildFault.{BuildFault}
+use Rattle.rule_graph.specs.declared.build_fault.BuildFault.TheVariants as fault
 use Rattle.rule_graph.specs.Rules.{are_below}
 use Rattle.sign_store.specs.Stores.{IsKept, map_of}
 use Rattle.sign_store.specs.Ends.{image_in}
@@ -58,7 +59,7 @@ use Rattle.build_run.proofs.StepTexts.{steps_printed}
 use Rattle.build_run.proofs.EndingOn.{not_before}
 use Rattle.build_run.proofs.Forgetting.{forgets_none, has_forgotten, watch_unmade}
 use Rattle.build_run.proofs.Remembering.{has_remembered}
-use Rattle.build_run.proofs.Reported.{refused_reported, reported}
+use Rattle.build_run.proofs.Reported.{refused_reported, refused_rings, reported}
 use Rattle.build_run.proofs.Safely.{safe_on}
 use Rattle.build_run.proofs.Stopped.{never_covers, none_watched, safe_first, unwatched}
 use Rattle.build_run.specs.declared.building.Options.{Options}
@@ -219,23 +220,6 @@ module _ {W : Type 0} (m : Meaning W) (g : RuleGraph) (requested : List NodeId) 
         };
       }
 
-      -- what it reports comes of its log
-      pub build_faulted : (now : RuleGraph) → MadeFaulted m h run mid b account options now c after → (answer : BuildEnd) → answer.is_ended ≡ after.is_ended →
-          answer.faults ≡ after.faults.items → answer.memory ≡ after.memory → BuildFaults m g requested options store a last c answer
-      build_faulted now faulted answer same said noted = λ tells sure below.
-          let left = (has (told tells) below).left in
-          let runs = (made tells sure below).runs in
-          record {
-            run = has_run answer same tells sure below;
-            faults =
-                subst (λ (wanting : Bool). AreFaultsOf (IsFirstOf runs.log.entries) (StandsBeside (o (told tells) below) runs.log.entries) wanting
-                runs.log.entries answer.faults) (sym noted)
-                (subst (λ (faults : List BuildFault). AreFaultsOf (IsFirstOf runs.log.entries) (StandsBeside (o (told tells) below) runs.log.entries)
-                after.memory runs.log.entries faults) (sym said)
-                (reported (IsJobIn w (map_of mid) left (m.around c)) (AreUnrisen w.keep (m.counts a)) (o (told tells) below) now after runs.steps
-                runs.log.entries (m.around c).log runs.log.are runs.log.grown (faulted tells sure (o (told tells) below) (ready (told tells) below))));
-          }
-
       pub build_succeeded : (answer : BuildEnd) → (answer.faults ≡ [] → answer.memory ≡ false → is_faulted after ≡ false) →
           BuildSucceeds m w (map_of store) a c (map_of last) answer
       build_succeeded answer faulted = λ none memory tells sure below.
@@ -287,6 +271,29 @@ module _ {W : Type 0} (m : Meaning W) (g : RuleGraph) (requested : List NodeId) 
           AreSkips w (map_of mid) (has (told tells) below).left (m.around c) did.made.runs.steps answer.faults pairs) (sym said)
           (subst (λ (faults : List BuildFault).
           AreSkips w (map_of mid) (has (told tells) below).left (m.around c) did.made.runs.steps faults skipped) (sym reported) (did.skips (sym same ∙ e)));
+    }
+
+    -- and that what it reports comes of its log
+    pub build_faulted : (after : Account) (told : m.tells c → m.tells b) (last : Store) (now : RuleGraph) →
+        MadeFaulted m h run mid b account options now c after last →
+        (after.is_store_shut ≡ true → Rose (m.counts a).disk_faults (m.counts c).disk_faults) → StaysKept m c last after →
+        (answer : BuildEnd) → answer.is_ended ≡ after.is_ended → answer.faults ≡ after.faults.items → answer.memory ≡ after.memory →
+        BuildFaults m g requested options store a last c answer
+    unfolding made build_ran
+    build_faulted after told last now faulted rose stays answer same said noted = λ tells sure below. record {
+      run = build_ran after told last (λ t s x r. (faulted t s x r).made) rose stays answer same tells sure below;
+      faults =
+          let did = faulted tells sure (o (told tells) below) (ready (told tells) below) in
+          let log = did.made.runs.log in
+          let Told : Bool → List BuildFault → Type 0 = λ wanting faults.
+          AreFaultsOf (IsFirstOf log.entries) (StandsBeside (o (told tells) below) log.entries) wanting log.entries faults in
+          subst (λ (wanting : Bool). Told wanting answer.faults) (sym noted)
+          (subst (λ (faults : List BuildFault). Told after.memory faults) (sym said)
+          (reported (IsJobIn w (map_of mid) (has (told tells) below).left (m.around c)) (AreUnrisen w.keep (m.counts a)) (o (told tells) below) now after
+          did.made.runs.steps log.entries (m.around c).log log.are log.grown did.faults));
+      rings = λ paths h.
+          (faulted tells sure (o (told tells) below) (ready (told tells) below)).rings paths
+          (subst (λ (faults : List BuildFault). Contains faults (fault.Cycle paths)) said h);
     }
 
     -- and that it counted what didn't end well
@@ -396,6 +403,8 @@ module _ {W : Type 0} (m : Meaning W) (g : RuleGraph) (requested : List NodeId) 
             subst (λ (wanting : Bool). AreFaultsOf (IsFirstOf entries) (StandsBeside o entries) wanting entries answer.faults) (sym noted)
             (subst (λ (faults : List BuildFault). AreFaultsOf (IsFirstOf entries) (StandsBeside o entries) new.memory entries faults)
             (sym said) (refused_reported o entries empty e old new plain adds none));
+        rings = λ paths h.
+            absurd (refused_rings e old new plain adds none paths (subst (λ (faults : List BuildFault). Contains faults (fault.Cycle paths)) said h));
       }
 
   pub refused_untold : (after : Account) → is_faulted after ≡ true → (answer : BuildEnd) →

@@ -11,6 +11,7 @@ use Rattle.world_api.specs.declared.job.Outcome.TheVariants.{Done, Failed, Broke
 use Rattle.rule_graph.specs.Graphs.{RuleGraph}
 use Rattle.rule_graph.specs.declared.build_fault.BuildFault.{BuildFault}
 use Rattle.rule_graph.specs.declared.build_fault.BuildFault.TheVariants as fault
+use Rattle.task_plan.specs.Plans.{Planned}
 use Rattle.task_plan.specs.declared.want.PlanEvent.{PlanEvent}
 use Rattle.task_plan.specs.declared.want.Want.{Want}
 use Rattle.build_model.specs.Rules.{Path, Among, here, there}
@@ -25,7 +26,7 @@ use Rattle.turn_means.specs.Standing.{Outset}
 use Rattle.build_run.specs.Along.{HasFailed, IsReliable, IsWantedOf, StaysAlong}
 use Rattle.build_run.specs.Causes.{HasPrintEnd}
 use Rattle.build_run.specs.Endings.{KeepsWant}
-use Rattle.build_run.specs.Faulted.{fault_of, AddsCycle, AddsDone, AddsFault, AddsOut, AddsOutcome, Adds, AreFaulted, AreFaultsOf, AreNamedBy, EndsAtStart, EndsPlainly, GoesFaulted, HasFaultsBy, HasNoCycle, HasNoStartFault, IsCycleFault, IsFaulted, IsFaultedAt, IsFirstBy, IsPlain, IsPlainEnd, IsStartEnd, IsUnstarted, IsWithout, LeadsFaulted, MayEnd, MayStandBeside, SiteKeepsFaulted, StandsBeside, TellsFaulted, TurnsFaulted, none_yet, has_started, was_done, is_told, is_untold, stands_beside, is_kept, is_lost, out_behind, none_added, out_added, was_lost, was_told, none_told, cycle_told, plain_told}
+use Rattle.build_run.specs.Faulted.{fault_of, AddsCycle, AddsDone, AddsFault, AddsOut, AddsOutcome, Adds, AreFaulted, AreFaultsOf, AreNamedBy, EndsAtStart, EndsPlainly, GoesFaulted, HasFaultsBy, HasNoCycle, HasNoStartFault, IsCycleFault, IsFaulted, IsFaultedAt, IsFirstBy, IsPlain, IsPlainEnd, IsStartEnd, IsUnstarted, IsWithout, LeadsFaulted, MayEnd, MayStandBeside, SiteKeepsFaulted, StandsBeside, TellsFaulted, TurnsFaulted, WaitForThemselves, none_yet, has_started, was_done, is_told, is_untold, stands_beside, is_kept, is_lost, out_behind, none_added, out_added, was_lost, was_told, none_told, cycle_told, plain_told}
 use Rattle.build_run.specs.Sites.{most_jobs}
 use Rattle.build_run.specs.Unmade.{Since}
 use Rattle.build_run.specs.declared.account.Account.{Account}
@@ -405,7 +406,7 @@ no_cycle_more faults f none other paths h = elim (in_pushed faults f (fault.Cycl
   | inr same ↦ other paths same
 ]
 
-none_at_all : HasNoCycle []
+pub none_at_all : HasNoCycle []
 none_at_all paths h = absurd (let lt = h.1 in omega (arith, lt))
 
 no_cycle_told : (target : Path) (outcome : Outcome) (paths : List Path) → fault_of target outcome ≡ Some (fault.Cycle paths) → ⊥
@@ -415,7 +416,7 @@ no_cycle_told target Broken paths e = cc e
 no_cycle_told target NoMemory paths e = cc e
 
 -- while rules are decided no cycle is told
-no_cycle : (IsFirst : ℕ → Path → Type 0) (o : Outset) (all : List Entry) (wanting : Bool) {entries : List Entry} {faults : List BuildFault} →
+pub no_cycle : (IsFirst : ℕ → Path → Type 0) (o : Outset) (all : List Entry) (wanting : Bool) {entries : List Entry} {faults : List BuildFault} →
     AreFaultsOf IsFirst (λ front f. MayStandBeside o all f) wanting entries faults → HasNoCycle faults
 no_cycle IsFirst o all wanting none_yet = none_at_all
 no_cycle IsFirst o all wanting (has_started job counts h) = no_cycle IsFirst o all wanting h
@@ -426,6 +427,29 @@ no_cycle IsFirst o all wanting (is_untold id outcome lacking h) = no_cycle IsFir
 no_cycle IsFirst o all wanting (stands_beside {entries} {faults} f so h) =
     no_cycle_more faults f (no_cycle IsFirst o all wanting h) (λ paths e. subst (λ (x : BuildFault). MayStandBeside o all x) e so)
 
+-- one that is told in the end is one by the plan
+out_no_cycle : (paths : List Path) → fault.OutFault ≡ fault.Cycle paths → ⊥
+out_no_cycle paths e = cc e
+
+pub adds_no_cycle : (wanting : Bool) (f : BuildFault) (faults : List BuildFault) {more : List BuildFault} → Adds wanting f faults more → HasNoCycle faults →
+    ((paths : List Path) → f ≡ fault.Cycle paths → ⊥) → HasNoCycle more
+adds_no_cycle wanting f faults is_kept none other = no_cycle_more faults f none other
+adds_no_cycle wanting f faults (is_lost lacking) none other = none
+adds_no_cycle wanting f faults (out_behind {more} a) none other =
+    no_cycle_more more fault.OutFault (adds_no_cycle wanting f faults a none other) out_no_cycle
+
+pub ring_told : (plan : Planned) (old new : Account) → HasNoCycle old.faults.items → AddsCycle plan old new → (paths : List Path) →
+    Contains new.faults.items (fault.Cycle paths) → (old.is_ended ≡ false) × WaitForThemselves plan
+ring_told plan old new none (none_told same) paths h =
+    absurd (none paths (subst (λ (l : List BuildFault). Contains l (fault.Cycle paths)) same h))
+ring_told plan old new none (cycle_told f is going waits adds) paths h = (going, waits)
+ring_told plan old new none (plain_told f plain adds) paths h =
+    absurd (adds_no_cycle new.memory f old.faults.items adds none (λ other e. subst (λ (x : BuildFault). IsPlain x) e plain) paths h)
+
+-- while a build goes along none is told
+pub since_no_cycle : (o : Outset) (g : RuleGraph) (account : Account) (log : List Entry) → IsFaultedAt o g account log → HasNoCycle account.faults.items
+since_no_cycle o g account log has = no_cycle (IsFirstBy g) o has.entries account.memory has.so.are
+
 module _ (o : Outset) (g : RuleGraph) (entries : List Entry) (old new : Account) (want : KeepsWant old new) (has : AreFaulted o g old entries) where
   abbrev Ends : List BuildFault → BuildFault → Type 0
   Ends faults f = StandsBeside o entries faults f
@@ -435,18 +459,18 @@ module _ (o : Outset) (g : RuleGraph) (entries : List Entry) (old new : Account)
       old.faults.items (wants_on old.memory new.memory want) (λ id outcome target m named. named)
       (λ front f h so. beside_stands o entries front f so) (λ e m. m) (λ f h. h) has.are
 
-  pub closes_faulted : AddsCycle old new → HasFaultsBy o g new entries
-  closes_faulted (none_told same) = record {
+  pub closes_faulted : (plan : Planned) → AddsCycle plan old new → HasFaultsBy o g new entries
+  closes_faulted plan (none_told same) = record {
     named = has.named;
     are = subst (λ (l : List BuildFault). AreFaultsOf (IsFirstBy g) Ends new.memory entries l) (sym same) at_last;
   }
-  closes_faulted (cycle_told f is adds) = record {
+  closes_faulted plan (cycle_told f is going waits adds) = record {
     named = has.named;
     are = adds_on (IsFirstBy g) Ends (λ front. tt) new.memory f entries old.faults.items
         (cycle_stands o entries old.faults.items f
         (no_cycle (IsFirstBy g) o entries old.memory has.are) is) adds at_last;
   }
-  closes_faulted (plain_told f is adds) = record {
+  closes_faulted plan (plain_told f is adds) = record {
     named = has.named;
     are = adds_on (IsFirstBy g) Ends (λ front. tt) new.memory f entries old.faults.items
         (plain_stands o entries old.faults.items f is) adds at_last;
@@ -515,9 +539,9 @@ module _ (o : Outset) (g : RuleGraph) (log : List Entry) where
   since_grown h account grows has = since_as o.before.log log (AreFaulted o g account) (AreFaulted o h account)
       (λ entries are. faulted_grown o g h account entries grows are) has
 
-  pub since_closed : (old new : Account) → KeepsWant old new → AddsCycle old new → IsFaultedAt o g old log → Since o.before.log log (HasFaultsBy o g new)
-  since_closed old new want adds has = since_as o.before.log log (AreFaulted o g old) (HasFaultsBy o g new)
-      (λ entries are. closes_faulted o g entries old new want are adds) has
+  pub since_closed : (plan : Planned) (old new : Account) → KeepsWant old new → AddsCycle plan old new → IsFaultedAt o g old log → Since o.before.log log (HasFaultsBy o g new)
+  since_closed plan old new want adds has = since_as o.before.log log (AreFaulted o g old) (HasFaultsBy o g new)
+      (λ entries are. closes_faulted o g entries old new want are plan adds) has
 
 -- ---- sites
 

@@ -51,3 +51,4 @@ mod Forgetting
 mod Faulted
 mod Unstarted
 mod Reported
+mod Rings

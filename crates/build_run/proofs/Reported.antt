@@ -11,6 +11,7 @@ use Rattle.world_api.specs.declared.job.Outcome.{Outcome}
 use Rattle.rule_graph.specs.Graphs.{RuleGraph}
 use Rattle.rule_graph.specs.declared.build_fault.BuildFault.{BuildFault}
 use Rattle.rule_graph.specs.declared.build_fault.BuildFault.TheVariants as fault
+use Rattle.task_plan.specs.Plans.{Planned}
 use Rattle.build_model.specs.Rules.{Path, Rule, Setting, Tree, Among, here, there}
 use Rattle.build_model.specs.Steps.{Step}
 use Rattle.build_model.proofs.Lists.{among_either, among_left, some_same, true_false}
@@ -21,14 +22,14 @@ use Rattle.build_files.specs.declared.end.ListEnd.{ListEnd}
 use Rattle.build_files.specs.declared.end.ListEnd.TheVariants as end
 use Rattle.turn_means.specs.Standing.{Outset}
 use Rattle.build_run.specs.Along.{is_faulted}
-use Rattle.build_run.specs.Faulted.{AddsCycle, AddsEnd, AreFaulted, AreFaultsOf, HasFaultsBy, HasNoStartFault, IsFaulted, IsFirstBy, IsFirstOf, IsPlain, IsPlainEnd, MayStandBeside, StandsBeside, none_yet, has_started, cycle_told, none_told, plain_told}
+use Rattle.build_run.specs.Faulted.{AddsCycle, AddsEnd, AreFaulted, AreFaultsOf, HasFaultsBy, HasNoCycle, HasNoStartFault, IsFaulted, IsFirstBy, IsFirstOf, IsPlain, IsPlainEnd, MayStandBeside, StandsBeside, none_yet, has_started, cycle_told, none_told, plain_told}
 use Rattle.build_run.specs.FaultTexts.{SameTold}
 use Rattle.build_run.specs.Outsets.{IsReadyFor}
 use Rattle.build_run.specs.Takes.{HasTakeEnd}
 use Rattle.build_run.specs.Unmade.{Since}
 use Rattle.build_run.specs.declared.account.Account.{Account}
 use Rattle.build_run.specs.declared.site.Site.{Site}
-use Rattle.build_run.proofs.Faulted.{adds_on, adds_same, faults_as, plain_look, plain_stands}
+use Rattle.build_run.proofs.Faulted.{adds_no_cycle, adds_on, adds_same, faults_as, none_at_all, plain_look, plain_stands}
 
 -- ---- as it begins
 
@@ -60,14 +61,16 @@ first_faulted m o site ready =
 -- ---- as it ends
 
 -- a cycle is told, and then memory was wanting for something else
-pub cycle_then : (old mid new : Account) → SameTold mid new → AddsCycle old mid → AddsCycle old new
-cycle_then old mid new same (none_told e) = none_told (same.faults ∙ e)
-cycle_then old mid new same (cycle_told f is adds) = cycle_told f is (adds_same mid.memory new.memory f old.faults.items mid.faults.items new.faults.items same.memory same.faults adds)
-cycle_then old mid new same (plain_told f is adds) = plain_told f is (adds_same mid.memory new.memory f old.faults.items mid.faults.items new.faults.items same.memory same.faults adds)
+pub cycle_then : (plan : Planned) (old mid new : Account) → SameTold mid new → AddsCycle plan old mid → AddsCycle plan old new
+cycle_then plan old mid new same (none_told e) = none_told (same.faults ∙ e)
+cycle_then plan old mid new same (cycle_told f is going waits adds) =
+    cycle_told f is going waits (adds_same mid.memory new.memory f old.faults.items mid.faults.items new.faults.items same.memory same.faults adds)
+cycle_then plan old mid new same (plain_told f is adds) =
+    plain_told f is (adds_same mid.memory new.memory f old.faults.items mid.faults.items new.faults.items same.memory same.faults adds)
 
-pub cycle_end : (e : ListEnd) (old new : Account) → IsPlainEnd e → AddsEnd old e new → AddsCycle old new
-cycle_end (end.Fault f) old new plain adds = plain_told f plain adds
-cycle_end end.Memory old new plain same = none_told same
+pub cycle_end : (plan : Planned) (e : ListEnd) (old new : Account) → IsPlainEnd e → AddsEnd old e new → AddsCycle plan old new
+cycle_end plan (end.Fault f) old new plain adds = plain_told f plain adds
+cycle_end plan end.Memory old new plain same = none_told same
 
 -- an end of taking leftover copies away is plain
 pub plain_take : (a b : Counts) (e : ListEnd) → HasTakeEnd a b e → IsPlainEnd e
@@ -96,6 +99,12 @@ pub refused_reported : (o : Outset) (entries : List Entry) → entries ≡ [] �
 refused_reported o entries empty e old new plain adds none =
     subst (λ (l : List Entry). AreFaultsOf (IsFirstOf entries) (StandsBeside o entries) new.memory l new.faults.items) (sym empty)
     (refused_faults (IsFirstOf entries) o entries e old new plain adds none)
+
+pub refused_rings : (e : ListEnd) (old new : Account) → IsPlainEnd e → AddsEnd old e new → old.faults.items ≡ [] → HasNoCycle new.faults.items
+refused_rings (end.Fault f) old new plain adds none =
+    adds_no_cycle new.memory f old.faults.items adds (subst (λ (l : List BuildFault). HasNoCycle l) (sym none) none_at_all)
+    (λ paths e. subst (λ (x : BuildFault). IsPlain x) e plain)
+refused_rings end.Memory old new plain same none = subst (λ (l : List BuildFault). HasNoCycle l) (sym (same ∙ none)) none_at_all
 
 -- ---- by the log of its steps
 
@@ -159,14 +168,3 @@ module _ (IsJob : Rule → Job → Type 0) (AreAt : Counts → Type 0) where
             has_id = started.1.has_id;
             first = own.2 ∙ sym own.1 ∙ ap (λ i. first_target_of g i) started.1.has_id ∙ is;
           }
-
--- what was lent has behind it what it held in the end
-pub faulted_given : {W O E : Type 0} (m : Meaning W) (last : Site W O E) (o : Outset) (now world : W) (account : Account) (h : RuleGraph) → last.world.now ≡ world →
-    last.account.now ≡ account → last.graph.now ≡ h → last.world.now ≡ now →
-    (m.tells now → m.sure now → Since o.before.log (m.around now).log (HasFaultsBy o last.graph.now last.account.now)) →
-    m.tells world → m.sure world → Since o.before.log (m.around world).log (HasFaultsBy o h account)
-faulted_given {W} m last o now world account h lent lent_account lent_graph same made =
-    subst (λ (w : W). m.tells w → m.sure w → Since o.before.log (m.around w).log (HasFaultsBy o h account)) (sym same ∙ lent)
-    (λ tells sure.
-    subst (λ (g : RuleGraph). Since o.before.log (m.around now).log (HasFaultsBy o g account)) lent_graph
-    (subst (λ (a : Account). Since o.before.log (m.around now).log (HasFaultsBy o last.graph.now a)) lent_account (made tells sure)))

@@ -17,12 +17,14 @@ use Rattle.rule_graph.specs.Graphs.{RuleGraph}
 use Rattle.rule_graph.specs.Rules.{are_below}
 use Rattle.rule_graph.specs.declared.build_fault.BuildFault.{BuildFault}
 use Rattle.rule_graph.specs.declared.build_fault.BuildFault.TheVariants as fault
+use Rattle.task_plan.specs.Cycles.{IsCycle}
+use Rattle.task_plan.specs.Plans.{Planned}
 use Rattle.task_plan.specs.declared.want.PlanEvent.{PlanEvent}
 use Rattle.task_plan.specs.declared.want.Want.{Want}
 use Rattle.build_model.specs.Rules.{Path, Rule, Setting, Among}
 use Rattle.build_model.specs.Moments.{Job as Given}
 use Rattle.build_model.specs.Steps.{Step, IsLacking, IsMissing}
-use Rattle.build_means.specs.Builds.{Wanted}
+use Rattle.build_means.specs.Builds.{Kept, Wanted}
 use Rattle.build_files.specs.Firsts.{first_target_of}
 use Rattle.build_files.specs.declared.end.ListEnd.{ListEnd}
 use Rattle.build_files.specs.declared.end.ListEnd.TheVariants as end
@@ -30,9 +32,10 @@ use Rattle.turn_means.specs.Laws.{is_due_now}
 use Rattle.turn_means.specs.Recording.{IsWayTo, build_at}
 use Rattle.turn_means.specs.Standing.{Outset, IsOutset, setting_at}
 use Rattle.build_run.specs.Along.{IsAlong, IsDue, IsWantedOf, standing_of}
-use Rattle.build_run.specs.Outsets.{wanted_of, HasRun, IsReadyFor}
+use Rattle.build_run.specs.Outsets.{wanted_of, HasMade, HasRun, IsReadyFor}
 use Rattle.build_run.specs.Remembering.{begun_with}
 use Rattle.build_run.specs.Sites.{most_jobs}
+use Rattle.build_run.specs.Skips.{IsNeededBy, NeedsBy}
 use Rattle.build_run.specs.Unmade.{HasNoMaker, Since}
 use Rattle.build_run.specs.Watches.{MayStart}
 use Rattle.build_run.specs.declared.account.Account.{Account}
@@ -208,11 +211,15 @@ abbrev pub IsCycleFault : BuildFault → Type 0
 IsCycleFault (fault.Cycle paths) = Unit {0}
 IsCycleFault other = ⊥
 
--- a cycle is told, or a plain fault, or none
-pub data AddsCycle (old new : Account) : Type 0 where
-  none_told : new.faults.items ≡ old.faults.items → AddsCycle old new
-  cycle_told : (f : BuildFault) → IsCycleFault f → AddsFault old f new → AddsCycle old new
-  plain_told : (f : BuildFault) → IsPlain f → AddsFault old f new → AddsCycle old new
+-- by a plan some rules wait for themselves
+abbrev pub WaitForThemselves : Planned → Type 0
+WaitForThemselves plan = (cycle : List RuleId) × IsCycle plan.states plan.rules plan.origins cycle
+
+-- rules that wait for themselves were told of before an end came, or a plain fault was, or none
+pub data AddsCycle (plan : Planned) (old new : Account) : Type 0 where
+  none_told : new.faults.items ≡ old.faults.items → AddsCycle plan old new
+  cycle_told : (f : BuildFault) → IsCycleFault f → old.is_ended ≡ false → WaitForThemselves plan → AddsFault old f new → AddsCycle plan old new
+  plain_told : (f : BuildFault) → IsPlain f → AddsFault old f new → AddsCycle plan old new
 
 -- ---- sites
 
@@ -286,18 +293,35 @@ pub record HasFaultsBy (o : Outset) (g : RuleGraph) (account : Account) (entries
   pub named : AreNamedBy g entries
   pub are : AreFaultsOf (IsFirstBy g) (StandsBeside o entries) account.memory entries account.faults.items
 
-abbrev pub MadeFaulted : {W : Type 0} → Meaning W → RuleGraph → Run → Store → W → Account → Options → RuleGraph → W → Account → Type 0
-MadeFaulted m g run store world account options h new new_account = m.tells new → m.sure new → (o : Outset) →
-    IsReadyFor m o g run store world account options → Since o.before.log (m.around new).log (HasFaultsBy o h new_account)
+-- by these steps a needed rule needs itself, directly or through others
+pub record HasRing (w : Wanted) (kept : Kept) (before after : Around) (steps : List Step) : Type 0 where
+  pub rule : Rule
+  pub needed : IsNeededBy w kept before after steps rule
+  pub itself : NeedsBy w kept before after steps rule rule
+
+-- where a cycle is told there is one
+abbrev pub TellsRings : (w : Wanted) (kept : Kept) (before after : Around) → List Step → List BuildFault → Type 0
+TellsRings w kept before after steps faults = (paths : List Path) → Contains faults (fault.Cycle paths) → HasRing w kept before after steps
+
+-- What a build did, and that what it reports comes of its log.
+pub record HasMadeFaulted (o : Outset) (g : RuleGraph) (around : Around) (account : Account) (behind : Map) : Type 0 where
+  pub made : HasMade o around account behind
+  pub faults : Since o.before.log around.log (HasFaultsBy o g account)
+  pub rings : TellsRings o.wanted o.kept o.before around made.runs.steps account.faults.items
+
+abbrev pub MadeFaulted : {W : Type 0} → Meaning W → RuleGraph → Run → Store → W → Account → Options → RuleGraph → W → Account → Store → Type 0
+MadeFaulted m g run store world account options h new new_account new_store = m.tells new → m.sure new → (o : Outset) →
+    IsReadyFor m o g run store world account options → HasMadeFaulted o h (m.around new) new_account (map_of new_store)
 
 -- ---- builds
 
 -- What a build did, and that what it reports comes of its log: of each job that failed or couldn't be run a fault; beside these of a rule
--- whose job couldn't be started, of one that lacks a dependency, of at most one cycle, and of what is of no rule.
+-- whose job couldn't be started, of one that lacks a dependency, of at most one cycle, where there is one, and of what is of no rule.
 pub record HasFaulted {W : Type 0} (m : Meaning W) (w : Wanted) (map : Map) (old new : W) (behind : Map) (answer : BuildEnd) : Type 0 where
   pub run : HasRun m w map old new behind answer.is_ended
   pub faults : AreFaultsOf (IsFirstOf run.runs.log.entries) (StandsBeside (begun_with w run.kept (m.counts old) run.left) run.runs.log.entries)
       answer.memory run.runs.log.entries answer.faults
+  pub rings : TellsRings w run.kept run.left (m.around new) run.runs.steps answer.faults
 
 -- So builds do, in a world that tells and is sure, where the requested nodes are the graph's.
 abbrev pub BuildFaults : {W : Type 0} → Meaning W → RuleGraph → List NodeId → Options → Store → W → Store → W → BuildEnd → Type 0

@@ -278,8 +278,8 @@ returns-in-Ok-clause-faulted g c =
     (g.met.W.Disk.reads_as c.set_out.new.world) c.in-Ok.ensures.kept c.make_all-skipped.ensures.passes.told.sure c.set_out.ensures.safe
     c.runs_are_right.ensures
     c.make_all-skipped.new.account c.make_all-skipped.ensures.passes.told.told
-    c.make_all-skipped.new.store c.make_all-skipped.ensures.makes made.shut c.make_all-skipped.ensures.stored c.make_all-skipped.new.graph
-    c.make_all-skipped.ensures.faulted c.answer.result c.answer.ensures.ended c.answer.ensures.faults c.answer.ensures.memory
+    c.make_all-skipped.new.store c.make_all-skipped.new.graph c.make_all-skipped.ensures.faulted made.shut c.make_all-skipped.ensures.stored
+    c.answer.result c.answer.ensures.ended c.answer.ensures.faults c.answer.ensures.memory
 
 pub returns-in-Err-clause-faulted : goal.returns-in-Err-clause-faulted
 returns-in-Err-clause-faulted g c =

@@ -11,12 +11,11 @@ use Rattle.build_run.proofs.Turning.{first_safe, safe_given}
 use Rattle.build_run.proofs.Reporting.{told_given}
 use Rattle.build_run.proofs.Endings.{counts_given, counts_on, counts_still}
 use Rattle.build_run.proofs.Unrecorded.{all_given, has_made_all}
-use Rattle.build_run.proofs.Faulted.{since_closed, since_log}
-use Rattle.build_run.proofs.Reported.{faulted_given, first_faulted}
+use Rattle.build_run.proofs.Reported.{first_faulted}
+use Rattle.build_run.proofs.Rings.{faulted_given, has_made_faulted}
 use Rattle.std.proofs.Common.{subst, sym}
 use Rattle.rule_graph.specs.Graphs.{RuleGraph}
-use Rattle.build_run.specs.Faulted.{HasFaultsBy}
-use Rattle.build_run.specs.Unmade.{Since}
+use Rattle.build_run.specs.Faulted.{HasMadeFaulted}
 use Rattle.build_run.proofs.building.make_all.Goals as goal
 
 pub go_on-requires : goal.go_on-requires
@@ -162,10 +161,13 @@ returns-clause-faulted g c = λ tells sure o ready.
     let passes = c.go_on.ensures.passes.same in
     let lent_world = same.world ∙ passes.world in
     let lent_account = same.account ∙ passes.account in
+    let lent_store = same.store ∙ passes.store in
     let lent_graph = same.graph ∙ passes.graph in
     let along = first_along m o _ ready c.requires.held c.requires.none in
-    faulted_given m last o mid.world.now _ _ c.graph-1.given.0 (search rules) (search rules) (search rules) c.close.ensures.world
-    (λ t s. subst (λ (of : RuleGraph). Since o.before.log (m.around mid.world.now).log (HasFaultsBy o of last.account.now)) (sym c.close.ensures.graph)
-    (since_closed o mid.graph.now (m.around mid.world.now).log mid.account.now last.account.now c.close.ensures.want c.close.ensures.lists
+    faulted_given m last o mid.world.now _ _ c.store-1.given.0 c.graph-1.given.0 (search rules) (search rules) (search rules) (search rules) c.close.ensures.world
+    (λ t s. subst (λ (of : RuleGraph). HasMadeFaulted o of (m.around mid.world.now) last.account.now (map_of last.store.now)) (sym c.close.ensures.graph)
+    (has_made_faulted m o ready.outset mid last.account.now (c.go_on.ensures.on t s o ready.outset along) (c.go_on.ensures.idle t)
+    (c.go_on.ensures.still t s o ready.outset along) c.close.ensures.ends c.close.ensures.finishes c.finished_succeed.ensures
+    c.go_on.ensures.put c.close.ensures.shut (map_of last.store.now) (ap map_of c.close.ensures.store) c.close.ensures.want c.close.ensures.lists
     (c.go_on.ensures.faulted t s o ready.outset along (first_faulted m o _ ready))))
     tells sure
