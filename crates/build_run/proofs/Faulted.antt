@@ -362,7 +362,7 @@ module _ (o : Outset) (g : RuleGraph) (entries : List Entry) (old new : Account)
     }
       where
         failed_other : (x : Outcome) → HasFailed x → (target other : Path) → fault_of target x ≡ Some (fault.StartFault other) → ⊥
-        failed_other (Failed code) h target other e = cc e
+        failed_other (Failed code) h target other e = cc
         failed_other Done h target other e = absurd h
         failed_other Broken h target other e = absurd h
         failed_other NoMemory h target other e = absurd h
