@@ -26,7 +26,7 @@ use Rattle.turn_means.specs.Standing.{Outset}
 use Rattle.build_run.specs.Along.{HasFailed, IsReliable, IsWantedOf, StaysAlong}
 use Rattle.build_run.specs.Causes.{HasPrintEnd}
 use Rattle.build_run.specs.Endings.{KeepsWant}
-use Rattle.build_run.specs.Faulted.{fault_of, AddsCycle, AddsDone, AddsFault, AddsOut, AddsOutcome, Adds, AreFaulted, AreFaultsOf, AreNamedBy, EndsAtStart, EndsPlainly, GoesFaulted, HasFaultsBy, HasNoCycle, HasNoStartFault, IsCycleFault, IsFaulted, IsFaultedAt, IsFirstBy, IsPlain, IsPlainEnd, IsStartEnd, IsUnstarted, IsWithout, LeadsFaulted, MayEnd, MayStandBeside, SiteKeepsFaulted, StandsBeside, TellsFaulted, TurnsFaulted, WaitForThemselves, none_yet, has_started, was_done, is_told, is_untold, stands_beside, is_kept, is_lost, out_behind, none_added, out_added, was_lost, was_told, none_told, cycle_told, plain_told}
+use Rattle.build_run.specs.Faulted.{fault_of, AddsCycle, AddsDone, AddsFault, AddsOut, AddsOutcome, Adds, AreFaulted, AreFaultsOf, AreNamedBy, EndsAtStart, EndsPlainly, GoesFaulted, HasFaultsBy, HasNoCycle, HasNoStartFault, IsCycleFault, IsFaulted, IsFaultedAt, IsFirstBy, IsPlain, IsPlainEnd, IsStartEnd, IsUnstarted, IsWithout, LeadsFaulted, MayEnd, MayStandBeside, StandsBeside, TellsFaulted, TurnsFaulted, WaitForThemselves, none_yet, has_started, was_done, is_told, is_untold, stands_beside, is_kept, is_lost, out_behind, none_added, out_added, was_lost, was_told, none_told, cycle_told, plain_told}
 use Rattle.build_run.specs.Sites.{most_jobs}
 use Rattle.build_run.specs.Unmade.{Since}
 use Rattle.build_run.specs.declared.account.Account.{Account}
@@ -543,27 +543,25 @@ module _ (o : Outset) (g : RuleGraph) (log : List Entry) where
   since_closed plan old new want adds has = since_as o.before.log log (AreFaulted o g old) (HasFaultsBy o g new)
       (λ entries are. closes_faulted o g entries old new want are plan adds) has
 
+-- ---- calls
+
+module _ {W : Type 0} (m : Meaning W) (g : RuleGraph) (old new : W) (before after : Account) (log : m.tells new → (m.around new).log ≡ (m.around old).log)
+    (want : KeepsWant before after) (ended : after.is_ended ≡ false → before.is_ended ≡ false) where
+  -- nothing more is reported
+  pub kept_faulted : after.faults.items ≡ before.faults.items → m.tells new → (o : Outset) → IsFaultedAt o g before (m.around old).log →
+      IsFaultedAt o g after (m.around new).log
+  kept_faulted same t o has =
+      since_log o g (m.around old).log (m.around new).log after (log t) (since_kept o g (m.around old).log before after want ended has same)
+
+  -- or a plain fault
+  pub plain_faulted : (f : BuildFault) → IsPlain f → AddsFault before f after → m.tells new → (o : Outset) → IsFaultedAt o g before (m.around old).log →
+      IsFaultedAt o g after (m.around new).log
+  plain_faulted f plain adds t o has =
+      since_log o g (m.around old).log (m.around new).log after (log t) (since_plain o g (m.around old).log before after want ended has f plain adds)
+
 -- ---- sites
 
 module _ {W O E : Type 0} (m : Meaning W) where
-  -- the account alone is another, and nothing more is reported
-  pub kept_faulted : (old new : Site W O E) → new.graph.now ≡ old.graph.now → (m.tells new.world.now → (m.around new.world.now).log ≡ (m.around old.world.now).log) →
-      KeepsWant old.account.now new.account.now → (new.account.now.is_ended ≡ false → old.account.now.is_ended ≡ false) →
-      new.account.now.faults.items ≡ old.account.now.faults.items → SiteKeepsFaulted m old new
-  kept_faulted old new graph log want ended same t o has =
-      subst (λ (g : RuleGraph). IsFaultedAt o g new.account.now (m.around new.world.now).log) (sym graph)
-      (since_log o old.graph.now (m.around old.world.now).log (m.around new.world.now).log new.account.now (log t)
-      (since_kept o old.graph.now (m.around old.world.now).log old.account.now new.account.now want ended has same))
-
-  -- or a plain fault
-  pub plain_faulted : (old new : Site W O E) → new.graph.now ≡ old.graph.now → (m.tells new.world.now → (m.around new.world.now).log ≡ (m.around old.world.now).log) →
-      KeepsWant old.account.now new.account.now → (new.account.now.is_ended ≡ false → old.account.now.is_ended ≡ false) →
-      (f : BuildFault) → IsPlain f → AddsFault old.account.now f new.account.now → SiteKeepsFaulted m old new
-  plain_faulted old new graph log want ended f plain adds t o has =
-      subst (λ (g : RuleGraph). IsFaultedAt o g new.account.now (m.around new.world.now).log) (sym graph)
-      (since_log o old.graph.now (m.around old.world.now).log (m.around new.world.now).log new.account.now (log t)
-      (since_plain o old.graph.now (m.around old.world.now).log old.account.now new.account.now want ended has f plain adds))
-
   module _ {T : Type 0} (o : Outset) (site : Site W O E) where
     -- a turn that ends plainly
     pub leads_plainly : (r : Result T ListEnd) → EndsPlainly r → IsFaulted m o site → LeadsFaulted m o site r

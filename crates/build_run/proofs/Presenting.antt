@@ -163,32 +163,42 @@ module _ {W O E : Type 0} (m : Meaning W) (o : Outset) (outset : IsOutset o) (ol
       goes_with true now stays e = true_false (sym (stays refl) ∙ e)
       goes_with false now stays e = refl
 
-  -- on this way the rule lacks it, and it was missing as the build began
-  pub lacks_then : (node : NodeId) → result ≡ Ok (present.Lacks node) → (path target : Path) → slice_get old.graph.now.nodes node.0 ≡ Some path →
-      first_target_of old.graph.now rule.0 ≡ Some target → IsWithout o path target
-  lacks_then node ok path target at named =
-      let is = read (present.Lacks node) ok model.0 model.1 in
-      let there = path_of old.graph.now.nodes node in
-      let absent = is.1 (looked_for o outset along.on.jobs (standing_of m old) along.on.past along.on.at.way known rule chosen.next node is.0) in
-      let none = absent.is_missing in
-      let may = may_be_decided (begun_at o) old.graph.now o.wanted.requested (build_at o (m.around old.world.now)) along.on.past old.run.now.plan
-      (tied o outset along.on.jobs (standing_of m old) along.on.past along.on.at.way known) rule.0 chosen.next.can chosen.next.goes in
-      subst (λ (p : Path). IsWithout o p target) (path_at old.graph.now node path at) (record {
-        rule = model.0;
-        own = own_first (begun_at o) old.graph.now known.now rule.0 model.0 model.1 target named;
-        lacks = record {
-          jobs = along.on.jobs;
-          around = m.around old.world.now;
-          past = along.on.past;
-          way = along.on.at.way;
-          lacks = subst (λ (r : Rule). IsLacking (setting_at o) (build_at o (m.around old.world.now)) along.on.past r there) (some_same (sym may.is ∙ model.1))
-              (may.lacks there absent);
-        };
-        missing = record {
-          no_rule = none.no_rule;
-          no_file = source_same o outset along.on.jobs (m.around old.world.now) along.on.past along.on.at.way there none.no_rule ∙ none.no_file;
-        };
-      })
+-- on this way the rule lacks it, and it was missing as the build began
+pub lacks_then : {W O E : Type 0} (m : Meaning W) (o : Outset) → IsOutset o → (old : Site W O E) (along : IsAlong m o old) (rule : RuleId) →
+    IsChosen old.run.now.plan rule → (run : Run) (after : W) → m.tells after → (result : Result Present ListEnd) →
+    Presents m old.graph.now old.run.now old.world.now rule run after result → (node : NodeId) → result ≡ Ok (present.Lacks node) → (path target : Path) →
+    slice_get old.graph.now.nodes node.0 ≡ Some path → first_target_of old.graph.now rule.0 ≡ Some target → IsWithout o path target
+lacks_then m o outset old along rule chosen run after tells result presents node ok path target at named =
+    let known = along.on.at.knows (not_ended m o old along chosen.next.goes) in
+    let around = m.around old.world.now in
+    let deps = deps_of old.run.now.plan.rules rule.0 in
+    let there = path_of old.graph.now.nodes node in
+    let still = deps_still o outset along.on.jobs (standing_of m old) along.on.past along.on.at.way known rule chosen.next in
+    let model = numbered_rule o outset along.on.jobs (standing_of m old) along.on.past along.on.at.way known rule chosen.next in
+    let read : IsPresentFor old.graph.now rule.0 deps [] around (begun_at o) (present.Lacks node) =
+    subst (λ (keys : List Path). IsPresentFor old.graph.now rule.0 deps keys around (begun_at o) (present.Lacks node)) known.none_gone
+    (subst (λ (r : Result Present ListEnd). IfOk r (IsPresentFor old.graph.now rule.0 deps old.run.now.inputs.gone.keys around (begun_at o))) ok
+    (presents.present still tells (begun_at o) known.truth)) in
+    let is = read model.0 model.1 in
+    let absent = is.1 (looked_for o outset along.on.jobs (standing_of m old) along.on.past along.on.at.way known rule chosen.next node is.0) in
+    let none = absent.is_missing in
+    let may = may_be_decided (begun_at o) old.graph.now o.wanted.requested (build_at o around) along.on.past old.run.now.plan
+    (tied o outset along.on.jobs (standing_of m old) along.on.past along.on.at.way known) rule.0 chosen.next.can chosen.next.goes in
+    subst (λ (p : Path). IsWithout o p target) (path_at old.graph.now node path at) (record {
+      rule = model.0;
+      own = own_first (begun_at o) old.graph.now known.now rule.0 model.0 model.1 target named;
+      lacks = record {
+        jobs = along.on.jobs;
+        around = around;
+        past = along.on.past;
+        way = along.on.at.way;
+        lacks = subst (λ (r : Rule). IsLacking (setting_at o) (build_at o around) along.on.past r there) (some_same (sym may.is ∙ model.1)) (may.lacks there absent);
+      };
+      missing = record {
+        no_rule = none.no_rule;
+        no_file = source_same o outset along.on.jobs around along.on.past along.on.at.way there none.no_rule ∙ none.no_file;
+      };
+    })
 
 -- behind a fault of that the build goes on, or not
 module _ {W O E : Type 0} (m : Meaning W) (o : Outset) (outset : IsOutset o) (old last : Site W O E) (along : IsAlong m o old)

@@ -11,6 +11,7 @@ use Rattle.world_api.specs.declared.job.Outcome.{Outcome}
 use Rattle.rule_graph.specs.Graphs.{RuleGraph}
 use Rattle.rule_graph.specs.declared.build_fault.BuildFault.{BuildFault}
 use Rattle.rule_graph.specs.declared.build_fault.BuildFault.TheVariants as fault
+use Rattle.sign_store.specs.declared.store.Store.{Store}
 use Rattle.task_plan.specs.Plans.{Planned}
 use Rattle.build_model.specs.Rules.{Path, Rule, Setting, Tree, Among, here, there}
 use Rattle.build_model.specs.Steps.{Step}
@@ -22,13 +23,14 @@ use Rattle.build_files.specs.declared.end.ListEnd.{ListEnd}
 use Rattle.build_files.specs.declared.end.ListEnd.TheVariants as end
 use Rattle.turn_means.specs.Standing.{Outset}
 use Rattle.build_run.specs.Along.{is_faulted}
-use Rattle.build_run.specs.Faulted.{AddsCycle, AddsEnd, AreFaulted, AreFaultsOf, HasFaultsBy, HasNoCycle, HasNoStartFault, IsFaulted, IsFirstBy, IsFirstOf, IsPlain, IsPlainEnd, MayStandBeside, StandsBeside, none_yet, has_started, cycle_told, none_told, plain_told}
+use Rattle.build_run.specs.Faulted.{AddsCycle, AddsEnd, AreFaulted, AreFaultsOf, HasFaultsBy, HasNoCycle, HasNoStartFault, IsFaultedAt, IsFirstBy, IsFirstOf, IsPlain, IsPlainEnd, MayStandBeside, StandsBeside, none_yet, has_started, cycle_told, none_told, plain_told}
 use Rattle.build_run.specs.FaultTexts.{SameTold}
 use Rattle.build_run.specs.Outsets.{IsReadyFor}
 use Rattle.build_run.specs.Takes.{HasTakeEnd}
 use Rattle.build_run.specs.Unmade.{Since}
 use Rattle.build_run.specs.declared.account.Account.{Account}
-use Rattle.build_run.specs.declared.site.Site.{Site}
+use Rattle.build_run.specs.declared.building.Options.{Options}
+use Rattle.build_run.specs.declared.site.Run.{Run}
 use Rattle.build_run.proofs.Faulted.{adds_no_cycle, adds_on, adds_same, faults_as, none_at_all, plain_look, plain_stands}
 
 -- ---- as it begins
@@ -42,18 +44,16 @@ no_start_in : (target : Path) → Contains [] (fault.StartFault target) → ⊥
 no_start_in target h = absurd (let lt = h.1 in omega (arith, lt))
 
 -- nothing is reported
-pub first_faulted : {W O E : Type 0} (m : Meaning W) (o : Outset) (site : Site W O E) →
-    IsReadyFor m o site.graph.now site.run.now site.store.now site.world.now site.account.now site.options → IsFaulted m o site
-first_faulted m o site ready =
-    let account = site.account.now in
+pub first_faulted : {W : Type 0} (m : Meaning W) (o : Outset) (g : RuleGraph) (run : Run) (store : Store) (world : W) (account : Account) (options : Options) →
+    IsReadyFor m o g run store world account options → IsFaultedAt o g account (m.around world).log
+first_faulted m o g run store world account options ready =
     let none : account.faults.items ≡ [] = none_faulted account.memory account.faults.items ready.blank.faulted in
     record {
       entries = [];
       grown = ready.sets.set.around.log ∙ sym (append-nil o.before.log);
       so = record {
         named = λ job counts n. elim n [ ];
-        are = subst (λ (faults : List BuildFault).
-            AreFaultsOf (IsFirstBy site.graph.now) (λ front f. MayStandBeside o [] f) account.memory [] faults) (sym none) none_yet;
+        are = subst (λ (faults : List BuildFault). AreFaultsOf (IsFirstBy g) (λ front f. MayStandBeside o [] f) account.memory [] faults) (sym none) none_yet;
         calm = λ going. subst (λ (faults : List BuildFault). HasNoStartFault faults) (sym none) no_start_in;
       };
     }

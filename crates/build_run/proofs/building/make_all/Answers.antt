@@ -169,5 +169,5 @@ returns-clause-faulted g c = λ tells sure o ready.
     (has_made_faulted m o ready.outset mid last.account.now (c.go_on.ensures.on t s o ready.outset along) (c.go_on.ensures.idle t)
     (c.go_on.ensures.still t s o ready.outset along) c.close.ensures.ends c.close.ensures.finishes c.finished_succeed.ensures
     c.go_on.ensures.put c.close.ensures.shut (map_of last.store.now) (ap map_of c.close.ensures.store) c.close.ensures.want c.close.ensures.lists
-    (c.go_on.ensures.faulted t s o ready.outset along (first_faulted m o _ ready))))
+    (c.go_on.ensures.faulted t s o ready.outset along (first_faulted m o _ _ _ _ _ _ ready))))
     tells sure

@@ -235,8 +235,8 @@ returns-in_ok-missing-in-Lacks-clause-faulted g c = λ tells sure o outset along
     let none = c.in_ok-missing-in-Lacks.ensures.missing in
     let asks = p.looks.around tells in
     let lacks : IsWithout o none.path none.target =
-    lacks_then m o outset site _ along c.args.rule wanted.0 asks refl refl refl refl p.rest tells (Ok c.in_ok-now.field-0)
-    c.in_ok-now.ensures.presents c.in_ok-now.ensures.cause c.in-Lacks.node (cc c.in-Lacks.is) none.path none.target none.at none.named in
+    lacks_then m o outset site along c.args.rule wanted.0 c.present.new.run c.present.new.world tells (Ok c.in_ok-now.field-0)
+    c.in_ok-now.ensures.presents c.in-Lacks.node (cc c.in-Lacks.is) none.path none.target none.at none.named in
     let seen = since_log o site.graph.now (m.around site.world.now).log _ site.account.now asks.log has in
     since_missing o site.graph.now _ site.account.now c.fail.new.self f.want (λ e. goes_before site.account.now c.fail.new.self f.ends e) seen
     c.in_ok-missing-in-Lacks.missing none.path none.target none.is lacks f.lists

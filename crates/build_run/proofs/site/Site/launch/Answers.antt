@@ -198,12 +198,12 @@ returns-clause-told g c =
 
 pub returns-in_err-clear-clause-faulted : goal.returns-in_err-clear-clause-faulted
 returns-in_err-clear-clause-faulted g c =
-    plain_starts _ _ c.from_residual.result (plain_exit c.from_residual.result _ c.from_residual.ensures.1 c.in_err-clear.ensures.plain)
+    plain_starts c.args.self.now.graph.now c.args.job.id c.from_residual.result (plain_exit c.from_residual.result _ c.from_residual.ensures.1 c.in_err-clear.ensures.plain)
 
 pub returns-in_err-show-clause-faulted : goal.returns-in_err-show-clause-faulted
 returns-in_err-show-clause-faulted g c =
     let r = c.from_residual-in_err-show in
-    plain_starts _ _ r.result (plain_exit r.result _ r.ensures.1 (plain_print _ _ _ c.in_err-show.ensures.cause))
+    plain_starts c.args.self.now.graph.now c.args.job.id r.result (plain_exit r.result _ r.ensures.1 (plain_print _ _ _ c.in_err-show.ensures.cause))
 
 pub returns-clause-faulted : goal.returns-clause-faulted
 returns-clause-faulted g c =

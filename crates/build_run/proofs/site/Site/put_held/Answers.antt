@@ -142,9 +142,13 @@ returns-then-self-clause-faulted g c = λ t o has. has
 
 pub returns-in-Ok-clause-faulted : goal.returns-in-Ok-clause-faulted
 returns-in-Ok-clause-faulted g c =
-    kept_faulted g.W.Disk.meaning c.args.self.now _ refl (λ t. ap (λ (a : Around). a.log) (c.put.ensures.around t)) (λ ample. ample) (λ e. e) refl
+    let site = c.args.self.now in
+    kept_faulted g.W.Disk.meaning site.graph.now site.world.now c.put.new.world site.account.now site.account.now
+    (λ t. ap (λ (a : Around). a.log) (c.put.ensures.around t)) (λ ample. ample) (λ e. e) refl
 
 pub returns-in-Err-clause-faulted : goal.returns-in-Err-clause-faulted
 returns-in-Err-clause-faulted g c =
-    plain_faulted g.W.Disk.meaning c.args.self.now _ refl (λ t. ap (λ (a : Around). a.log) (c.put.ensures.around t)) c.end.ensures.want
-    (λ e. true_false (sym c.end.ensures.ends.ended ∙ e)) fault.StoreFault tt c.end.ensures.lists
+    let site = c.args.self.now in
+    plain_faulted g.W.Disk.meaning site.graph.now site.world.now c.put.new.world site.account.now c.end.new.self
+    (λ t. ap (λ (a : Around). a.log) (c.put.ensures.around t)) c.end.ensures.want (λ e. true_false (sym c.end.ensures.ends.ended ∙ e)) fault.StoreFault tt
+    c.end.ensures.lists

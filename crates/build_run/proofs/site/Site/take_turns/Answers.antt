@@ -31,7 +31,7 @@ loop-turn-preserved g c =
       counts = site_counts_on m c.args.self.now c.take_turn-done.new.self c.tell.new.self tell.passes.passes.told.told
           (site_counts_on m c.args.self.now c.loop-turn.self c.take_turn-done.new.self turn.passes.passes.told.told before.counts turn.counts)
           (site_counts_tell m c.take_turn-done.new.self c.tell.new.self tell.still tell.want);
-      faulted = turns_faulted m _ _ _ _ _ _ tell.passes.passes.told turn.passes.passes.told (c.want-wanted.ensures.wanted (search rules)) before.along before.faulted
+      faulted = turns_faulted m c.args.self.now c.loop-turn.self c.take_turn-done.new.self c.tell.new.self _ _ tell.passes.passes.told turn.passes.passes.told (c.want-wanted.ensures.wanted (search rules)) before.along before.faulted
           turn.faulted tell.faulted;
       safe = turns_on m _ _ _ before.passes.passes.told told.passes.told before.along before.safe
           (turn_then m _ _ _ tell.passes.passes.told (turn.safe (c.want-wanted.ensures.wanted (search rules))) tell.safe);
