@@ -26,7 +26,7 @@ use Rattle.turn_means.specs.Standing.{Outset}
 use Rattle.build_run.specs.Along.{HasFailed, IsReliable, IsWantedOf, StaysAlong}
 use Rattle.build_run.specs.Causes.{HasPrintEnd}
 use Rattle.build_run.specs.Endings.{KeepsWant}
-use Rattle.build_run.specs.Faulted.{fault_of, AddsCycle, AddsDone, AddsFault, AddsOut, AddsOutcome, Adds, AreFaulted, AreFaultsOf, AreNamedBy, EndsAtStart, EndsPlainly, GoesFaulted, HasFaultsBy, HasNoCycle, HasNoStartFault, IsCycleFault, IsFaulted, IsFaultedAt, IsFirstBy, IsPlain, IsPlainEnd, IsStartEnd, IsUnstarted, IsWithout, LeadsFaulted, MayEnd, MayStandBeside, StandsBeside, TellsFaulted, TurnsFaulted, WaitForThemselves, none_yet, has_started, was_done, is_told, is_untold, stands_beside, is_kept, is_lost, out_behind, none_added, out_added, was_lost, was_told, none_told, cycle_told, plain_told}
+use Rattle.build_run.specs.Faulted.{fault_of, AddsCycle, AddsDone, AddsFault, AddsOut, AddsOutcome, Adds, AreFaulted, AreFaultsOf, AreNamedBy, EndsAtStart, EndsPlainly, GoesFaulted, HasFaultsBy, HasNoCycle, HasNoStartFault, IsCycleFault, IsFaulted, IsFaultedAt, IsFirstBy, IsPlain, IsPlainEnd, IsStartEnd, IsUnstarted, IsWithout, LeadsAt, MayEnd, MayStandBeside, StandsBeside, TellsFaulted, TurnsFaulted, WaitForThemselves, none_yet, has_started, was_done, is_told, is_untold, stands_beside, is_kept, is_lost, out_behind, none_added, out_added, was_lost, was_told, none_told, cycle_told, plain_told}
 use Rattle.build_run.specs.Sites.{most_jobs}
 use Rattle.build_run.specs.Unmade.{Since}
 use Rattle.build_run.specs.declared.account.Account.{Account}
@@ -559,37 +559,25 @@ module _ {W : Type 0} (m : Meaning W) (g : RuleGraph) (old new : W) (before afte
   plain_faulted f plain adds t o has =
       since_log o g (m.around old).log (m.around new).log after (log t) (since_plain o g (m.around old).log before after want ended has f plain adds)
 
--- ---- sites
+-- ---- turns
 
-module _ {W O E : Type 0} (m : Meaning W) where
-  module _ {T : Type 0} (o : Outset) (site : Site W O E) where
-    -- a turn that ends plainly
-    pub leads_plainly : (r : Result T ListEnd) → EndsPlainly r → IsFaulted m o site → LeadsFaulted m o site r
-    leads_plainly (Ok value) plain has = has
-    leads_plainly (Err e) plain has = (has, plain_end o site.graph.now (m.around site.world.now).log site.account.now e has plain)
-
-    pub leads_still : (r : Result T ListEnd) → LeadsFaulted m o site r → IsFaulted m o site
-    leads_still (Ok value) leads = leads
-    leads_still (Err e) leads = leads.0
-
-    -- what came of it was told
-    pub told_faulted : (done : Result T ListEnd) (new : Account) → KeepsWant site.account.now new → (new.is_ended ≡ false → site.account.now.is_ended ≡ false) →
-        OnErr done (new.is_ended ≡ true) → AddsDone site.account.now done new → LeadsFaulted m o site done →
-        IsFaultedAt o site.graph.now new (m.around site.world.now).log
-    told_faulted (Ok value) new want ended over adds leads =
-        since_kept o site.graph.now (m.around site.world.now).log site.account.now new want ended leads adds
-    told_faulted (Err (end.Fault f)) new want ended over adds leads =
-        since_told o site.graph.now (m.around site.world.now).log site.account.now new want ended leads.0 f leads.1 (λ target is. over) adds
-    told_faulted (Err end.Memory) new want ended over adds leads =
-        since_kept o site.graph.now (m.around site.world.now).log site.account.now new want ended leads.0 adds
+module _ {T : Type 0} (o : Outset) (g : RuleGraph) (account : Account) (log : List Entry) where
+  -- one that ends plainly
+  pub leads_plainly : (r : Result T ListEnd) → EndsPlainly r → IsFaultedAt o g account log → LeadsAt o g account log r
+  leads_plainly (Ok value) plain has = has
+  leads_plainly (Err e) plain has = (has, plain_end o g log account e has plain)
 
   -- an end that a call passes on
-  pub leads_exit : {T : Type 0} (o : Outset) (site : Site W O E) (r : Result T ListEnd) (e : ListEnd) → IsErrAnd r (λ x. x ≡ e) →
-      IsFaulted m o site × MayEnd o (m.around site.world.now).log e → LeadsFaulted m o site r
-  leads_exit o site (Ok value) e is leads = leads.0
-  leads_exit o site (Err x) e is leads = subst (λ (y : ListEnd). IsFaulted m o site × MayEnd o (m.around site.world.now).log y) (sym is) leads
+  pub leads_exit : (r : Result T ListEnd) (e : ListEnd) → IsErrAnd r (λ x. x ≡ e) → IsFaultedAt o g account log × MayEnd o log e → LeadsAt o g account log r
+  leads_exit (Ok value) e is leads = leads.0
+  leads_exit (Err x) e is leads = subst (λ (y : ListEnd). IsFaultedAt o g account log × MayEnd o log y) (sym is) leads
 
--- ---- turns
+  -- what came of it was told
+  pub told_faulted : (done : Result T ListEnd) (new : Account) → KeepsWant account new → (new.is_ended ≡ false → account.is_ended ≡ false) →
+      OnErr done (new.is_ended ≡ true) → AddsDone account done new → LeadsAt o g account log done → IsFaultedAt o g new log
+  told_faulted (Ok value) new want ended over adds leads = since_kept o g log account new want ended leads adds
+  told_faulted (Err (end.Fault f)) new want ended over adds leads = since_told o g log account new want ended leads.0 f leads.1 (λ target is. over) adds
+  told_faulted (Err end.Memory) new want ended over adds leads = since_kept o g log account new want ended leads.0 adds
 
 module _ {W O E : Type 0} (m : Meaning W) where
   pub turns_faulted : {T : Type 0} (start old mid new : Site W O E) (wish : Want) (done : Result T ListEnd) → Told m mid.world.now new.world.now →

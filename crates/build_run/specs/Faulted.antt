@@ -258,9 +258,12 @@ abbrev pub MayEnd : Outset → List Entry → ListEnd → Type 0
 MayEnd o log (end.Fault f) = Since o.before.log log (λ entries. MayStandBeside o entries f)
 MayEnd o log end.Memory = Unit {0}
 
+abbrev pub LeadsAt : {T : Type 0} → Outset → RuleGraph → Account → List Entry → Result T ListEnd → Type 0
+LeadsAt o g account log (Ok value) = IsFaultedAt o g account log
+LeadsAt o g account log (Err e) = IsFaultedAt o g account log × MayEnd o log e
+
 abbrev pub LeadsFaulted : {W O E T : Type 0} → Meaning W → Outset → Site W O E → Result T ListEnd → Type 0
-LeadsFaulted m o site (Ok value) = IsFaulted m o site
-LeadsFaulted m o site (Err e) = IsFaulted m o site × MayEnd o (m.around site.world.now).log e
+LeadsFaulted m o site result = LeadsAt o site.graph.now site.account.now (m.around site.world.now).log result
 
 -- So it is behind a turn of a build that goes along, in a world that tells and is sure,
 abbrev pub TurnsFaulted : {W O E T : Type 0} → Meaning W → Site W O E → Site W O E → Want → Result T ListEnd → Type 0

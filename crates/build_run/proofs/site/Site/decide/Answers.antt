@@ -215,7 +215,7 @@ returns-in_err-now-clause-faulted g c = λ tells sure o outset along wanted has.
     let m = g.W.Disk.meaning in
     let site = c.args.self.now in
     let r = c.from_residual in
-    leads_plainly m o _ r.result (plain_exit r.result _ r.ensures.1 (plain_look _ _ _ c.in_err-now.ensures.cause))
+    leads_plainly o site.graph.now site.account.now _ r.result (plain_exit r.result _ r.ensures.1 (plain_look _ _ _ c.in_err-now.ensures.cause))
     (since_log o site.graph.now (m.around site.world.now).log _ site.account.now (c.present.ensures.looks.around tells).log has)
 
 pub returns-in_err-missing-in-Lacks-clause-faulted : goal.returns-in_err-missing-in-Lacks-clause-faulted
@@ -223,7 +223,7 @@ returns-in_err-missing-in-Lacks-clause-faulted g c = λ tells sure o outset alon
     let m = g.W.Disk.meaning in
     let site = c.args.self.now in
     let r = c.from_residual-in_err-missing-in-Lacks in
-    leads_plainly m o _ r.result (plain_exit r.result _ r.ensures.1 (plain_inside _ c.in_err-missing-in-Lacks.ensures.quiet))
+    leads_plainly o site.graph.now site.account.now _ r.result (plain_exit r.result _ r.ensures.1 (plain_inside _ c.in_err-missing-in-Lacks.ensures.quiet))
     (since_log o site.graph.now (m.around site.world.now).log _ site.account.now (c.present.ensures.looks.around tells).log has)
 
 pub returns-in_ok-missing-in-Lacks-clause-faulted : goal.returns-in_ok-missing-in-Lacks-clause-faulted

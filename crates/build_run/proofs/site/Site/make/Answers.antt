@@ -385,7 +385,7 @@ returns-in_err-is_stale-clause-faulted g c = λ tells sure o outset along due ha
     let m = g.W.Disk.meaning in
     let site = c.args.self.now in
     let r = c.from_residual in
-    leads_plainly m o _ r.result (plain_exit r.result _ r.ensures.1 (plain_look _ _ _ c.in_err-is_stale.ensures.cause))
+    leads_plainly o site.graph.now site.account.now _ r.result (plain_exit r.result _ r.ensures.1 (plain_look _ _ _ c.in_err-is_stale.ensures.cause))
     (since_log o site.graph.now (m.around site.world.now).log _ site.account.now (c.is_stale.ensures.looks.around tells).log has)
 
 pub returns-then-not-branch-clause-faulted : goal.returns-then-not-branch-clause-faulted
@@ -400,7 +400,7 @@ returns-in_err-why-clause-faulted g c = λ tells sure o outset along due has.
     let site = c.args.self.now in
     let r = c.from_residual-in_err-why in
     let looks = looks_joined m _ _ _ c.is_stale.ensures.looks c.why_text.ensures.looks in
-    leads_plainly m o _ r.result (plain_exit r.result _ r.ensures.1 (plain_look _ _ _ c.in_err-why.ensures.cause))
+    leads_plainly o site.graph.now site.account.now _ r.result (plain_exit r.result _ r.ensures.1 (plain_look _ _ _ c.in_err-why.ensures.cause))
     (since_log o site.graph.now (m.around site.world.now).log _ site.account.now (looks.around tells).log has)
 
 pub returns-in_err-start-clause-faulted : goal.returns-in_err-start-clause-faulted
@@ -413,7 +413,7 @@ returns-in_err-start-clause-faulted g c = λ tells sure o outset along due has.
     let asks = looks.around before in
     let is = found_now m o outset site along c.args.rule c.args.now due c.why_text.new.world asks c.requires.sound g.met.W.Disk.reads_as
     (looks.told.told before) c.in_ok-is_stale.field-0 (c.in_ok-is_stale.ensures.due (c.why_text.ensures.looks.told.told before)) in
-    leads_exit m o c.start.new.self r.result _ r.ensures.1
+    leads_exit o c.start.new.self.graph.now c.start.new.self.account.now _ r.result _ r.ensures.1
     (c.in_err-start.ensures.faulted tells sure o outset
     (along_looked m o outset site _ along asks refl refl refl refl refl (c.in_ok-why.ensures.cause ∙ c.in_ok-is_stale.ensures.cause)
     (λ is. asked (begun_at o) site.graph.now site.run.now.inputs (m.around site.world.now) (m.around c.why_text.new.world) asks is) refl (λ is. is) (marks_here site.graph.now site.run.now.inputs))

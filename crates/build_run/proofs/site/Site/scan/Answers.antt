@@ -105,7 +105,7 @@ returns-in_err-found-clause-faulted g c = λ tells sure o outset along wanted ha
     let m = g.W.Disk.meaning in
     let site = c.args.self.now in
     let r = c.from_residual in
-    leads_plainly m o _ r.result (plain_exit r.result _ r.ensures.1 (plain_look _ _ _ c.in_err-found.ensures.cause))
+    leads_plainly o c.scanned.new.graph site.account.now _ r.result (plain_exit r.result _ r.ensures.1 (plain_look _ _ _ c.in_err-found.ensures.cause))
     (since_log o c.scanned.new.graph (m.around site.world.now).log _ site.account.now (c.scanned.ensures.looks.around tells).log
     (since_grown o site.graph.now (m.around site.world.now).log c.scanned.new.graph site.account.now c.scanned.ensures.grows has))
 

@@ -6,7 +6,7 @@ use Rattle.build_run.proofs.Stopping.{site_rests, site_then}
 use Rattle.build_run.specs.Holds.{hold_of}
 use Rattle.build_run.specs.Safe.{AreSafeIn, HasOwnRecord}
 use Rattle.build_run.specs.Watches.{MayGo}
-use Rattle.std.proofs.Common.{◌∙◌, ◌++◌, ◌∷◌, ℕ, List, [], Contains, inl, inr, ap, append_assoc, arith, length, length-append, refl, subst, sym}
+use Rattle.std.proofs.Common.{◌≡◌, ◌∙◌, ◌++◌, ◌∷◌, ℕ, List, [], Contains, inl, inr, ap, append_assoc, arith, length, length-append, refl, subst, sym}
 use Rattle.std.proofs.lemmas.List.{map-append}
 use Rattle.sign_store.specs.Tables.{Map}
 use Rattle.world_api.specs.Printing.{Prints}
@@ -543,22 +543,22 @@ returns-then-not-make_none_of-clause-faulted g c = λ tells sure o outset along 
 pub returns-in_err-text-clause-faulted : goal.returns-in_err-text-clause-faulted
 returns-in_err-text-clause-faulted g c = λ tells sure o outset along due is_due has.
     let r = c.from_residual in
-    leads_plainly g.W.Disk.meaning o c.args.self.now r.result (plain_within r.result r.ensures.1) has
+    leads_plainly o c.args.self.now.graph.now c.args.self.now.account.now _ r.result (plain_within r.result r.ensures.1) has
 
 pub returns-in_err-job-clause-faulted : goal.returns-in_err-job-clause-faulted
 returns-in_err-job-clause-faulted g c = λ tells sure o outset along due is_due has.
     let r = c.from_residual-in_err-job in
-    leads_plainly g.W.Disk.meaning o c.args.self.now r.result (plain_within r.result r.ensures.1) has
+    leads_plainly o c.args.self.now.graph.now c.args.self.now.account.now _ r.result (plain_within r.result r.ensures.1) has
 
 pub returns-in_err-hold-clause-faulted : goal.returns-in_err-hold-clause-faulted
 returns-in_err-hold-clause-faulted g c = λ tells sure o outset along due is_due has.
     let r = c.from_residual-in_err-hold in
-    leads_plainly g.W.Disk.meaning o c.args.self.now r.result (plain_within r.result r.ensures.1) has
+    leads_plainly o c.args.self.now.graph.now c.args.self.now.account.now _ r.result (plain_within r.result r.ensures.1) has
 
 pub returns-in_err-ticket-clause-faulted : goal.returns-in_err-ticket-clause-faulted
 returns-in_err-ticket-clause-faulted g c = λ tells sure o outset along due is_due has.
     let r = c.from_residual-in_err-ticket in
-    leads_plainly g.W.Disk.meaning o _ r.result (plain_exit r.result _ r.ensures.1 (plain_inside _ c.in_err-ticket.ensures.quiet)) has
+    leads_plainly o c.args.self.now.graph.now c.args.self.now.account.now _ r.result (plain_exit r.result _ r.ensures.1 (plain_inside _ c.in_err-ticket.ensures.quiet)) has
 
 pub returns-in-Ok-clause-faulted : goal.returns-in-Ok-clause-faulted
 returns-in-Ok-clause-faulted g c = λ tells sure o outset along due is_due has.

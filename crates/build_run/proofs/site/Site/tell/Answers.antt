@@ -43,7 +43,7 @@ pub returns-clause-faulted : goal.returns-clause-faulted
 returns-clause-faulted g c = λ o leads.
     let site = c.args.self.now in
     let tells = c.tell.ensures.tells in
-    told_faulted g.W.Disk.meaning o site c.args.done c.tell.new.account c.tell.ensures.want
+    told_faulted o site.graph.now site.account.now (g.W.Disk.meaning.around site.world.now).log c.args.done c.tell.new.account c.tell.ensures.want
     (λ e. tells_ended site.graph.now site.run.now.plan c.tell.new.plan c.args.done site.account.now c.tell.new.account tells e)
     (tells_end site.graph.now site.run.now.plan c.tell.new.plan c.args.done site.account.now c.tell.new.account tells)
     c.tell.ensures.lists leads
