@@ -3,7 +3,7 @@ use Rattle.sign_store.specs.Stores.{map_of}
 use Rattle.build_run.proofs.Choosing.{goes_before}
 use Rattle.build_run.proofs.BuildPrinting.{goes_printed, makes_given}
 use Rattle.build_run.proofs.Finishing.{first_along, has_made, made_given}
-use Rattle.build_run.proofs.Lending.{accounts_given, idle_given, kept_closed, passes_given, stored_given}
+use Rattle.build_run.proofs.Lending.{accounts_given, idle_given, kept_closed, passes_given, reason_given, stored_given}
 use Rattle.build_run.proofs.Sites.{sound_first}
 use Rattle.build_run.proofs.Skipping.{has_skipped, none_noted, skipped_given}
 use Rattle.build_run.proofs.Stopped.{along_first}
@@ -171,3 +171,11 @@ returns-clause-faulted g c = λ tells sure o ready.
     c.go_on.ensures.put c.close.ensures.shut (map_of last.store.now) (ap map_of c.close.ensures.store) c.close.ensures.want c.close.ensures.lists
     (c.go_on.ensures.faulted t s o ready.outset along (first_faulted m o _ _ _ _ _ _ ready))))
     tells sure
+
+pub returns-clause-reason : goal.returns-clause-reason
+returns-clause-reason g c = λ reason.
+    let same = c.close.ensures.same in
+    let passes = c.go_on.ensures.passes.same in
+    let lent_account = same.account ∙ passes.account in
+    reason_given c.close.new.self c.account-1.given.0 c.args.options (search rules) (same.options ∙ passes.options)
+    (c.close.ensures.reason (c.go_on.ensures.reason reason))
