@@ -1,8 +1,8 @@
 -- That what a build reports comes of its log, from call to call.
-use Rattle.std.proofs.Common.{◌≡◌, ◌∙◌, ◌++◌, ◌∷◌, ◌⊎◌, ◌<◌, [], ℕ, Bool, true, false, List, Option, Some, None, Contains, append-nil, append_assoc, ap, inl, inr, length, refl, subst, sym, arith}
+use Rattle.std.proofs.Common.{◌≡◌, ◌∙◌, ◌++◌, ◌∷◌, [], ℕ, Bool, true, false, List, Some, Contains, ap, inl, inr, length, refl, subst, sym, arith}
 use Rattle.std.specs.Prelude.{Result, Ok, Err, IsErrAnd, OnErr, slice_get}
 use Rattle.std.proofs.lemmas.List.Elements.{Contains-append_left, Contains-push}
-use Rattle.world_api.specs.Around.{Around, Entry, Started, Finished}
+use Rattle.world_api.specs.Around.{Entry, Started, Finished}
 use Rattle.world_api.specs.Counts.{Counts}
 use Rattle.world_api.specs.Meaning.{Meaning, Told}
 use Rattle.world_api.specs.declared.job.Job.{Job}
@@ -15,7 +15,7 @@ use Rattle.task_plan.specs.Plans.{Planned}
 use Rattle.task_plan.specs.declared.want.PlanEvent.{PlanEvent}
 use Rattle.task_plan.specs.declared.want.Want.{Want}
 use Rattle.build_model.specs.Rules.{Path, Among, here, there}
-use Rattle.build_model.proofs.Lists.{among_either, among_left, among_right, some_same, true_false}
+use Rattle.build_model.proofs.Lists.{among_either, among_left, among_right, true_false}
 use Rattle.build_files.specs.Causes.{HasEndCause, HasLookCause, IsInside}
 use Rattle.build_files.specs.Causes.{HasFaultCause as HasLookFault}
 use Rattle.build_files.specs.Firsts.{first_target_of}
@@ -26,7 +26,7 @@ use Rattle.turn_means.specs.Standing.{Outset}
 use Rattle.build_run.specs.Along.{HasFailed, IsReliable, IsWantedOf, StaysAlong}
 use Rattle.build_run.specs.Causes.{HasPrintEnd}
 use Rattle.build_run.specs.Endings.{KeepsWant}
-use Rattle.build_run.specs.Faulted.{fault_of, AddsCycle, AddsDone, AddsFault, AddsOut, AddsOutcome, Adds, AreFaulted, AreFaultsOf, AreNamedBy, EndsAtStart, EndsPlainly, GoesFaulted, HasFaultsBy, HasNoCycle, HasNoStartFault, IsCycleFault, IsFaulted, IsFaultedAt, IsFirstBy, IsPlain, IsPlainEnd, IsStartEnd, IsUnstarted, IsWithout, LeadsAt, MayEnd, MayStandBeside, StandsBeside, TellsFaulted, TurnsFaulted, WaitForThemselves, none_yet, has_started, was_done, is_told, is_untold, stands_beside, is_kept, is_lost, out_behind, none_added, out_added, was_lost, was_told, none_told, cycle_told, plain_told}
+use Rattle.build_run.specs.Faulted.{fault_of, AddsCycle, AddsDone, AddsFault, AddsOut, AddsOutcome, Adds, AreFaulted, AreFaultsOf, AreNamedBy, EndsAtStart, EndsPlainly, GoesFaulted, HasFaultsBy, HasNoCycle, HasNoStartFault, IsCycleFault, IsFaultedAt, IsFirstBy, IsPlain, IsPlainEnd, IsStartEnd, IsUnstarted, IsWithout, LeadsAt, MayEnd, MayStandBeside, StandsBeside, TellsFaulted, TurnsFaulted, WaitForThemselves, none_yet, has_started, was_done, is_told, is_untold, stands_beside, is_kept, is_lost, out_behind, none_added, out_added, was_lost, was_told, none_told, cycle_told, plain_told}
 use Rattle.build_run.specs.Sites.{most_jobs}
 use Rattle.build_run.specs.Unmade.{Since}
 use Rattle.build_run.specs.declared.account.Account.{Account}

@@ -1,9 +1,9 @@
 -- As a build begins nothing is reported, and in the end what is reported comes of the log of its steps.
-use Rattle.std.proofs.Common.{◌≡◌, ◌∙◌, ◌++◌, ◌∷◌, [], ◌||◌, ℕ, Bool, true, false, List, Option, Some, Contains, append-nil, ap, arith, inl, inr, length, refl, subst, sym}
-use Rattle.std.specs.Prelude.{nat_lt, slice_get}
+use Rattle.std.proofs.Common.{◌≡◌, ◌∙◌, ◌++◌, ◌∷◌, [], ◌||◌, ℕ, Bool, true, false, List, Contains, append-nil, ap, arith, inl, inr, length, refl, subst, sym}
+use Rattle.std.specs.Prelude.{nat_lt}
 use Rattle.std.proofs.lemmas.Bool.Decides.{nat_tests}
 use Rattle.std.proofs.lemmas.List.{append_cancel_left}
-use Rattle.world_api.specs.Around.{Around, Entry, Started, Finished}
+use Rattle.world_api.specs.Around.{Entry, Started, Finished}
 use Rattle.world_api.specs.Counts.{Counts}
 use Rattle.world_api.specs.Meaning.{Meaning}
 use Rattle.world_api.specs.declared.job.Job.{Job}
@@ -13,17 +13,15 @@ use Rattle.rule_graph.specs.declared.build_fault.BuildFault.{BuildFault}
 use Rattle.rule_graph.specs.declared.build_fault.BuildFault.TheVariants as fault
 use Rattle.sign_store.specs.declared.store.Store.{Store}
 use Rattle.task_plan.specs.Plans.{Planned}
-use Rattle.build_model.specs.Rules.{Path, Rule, Setting, Tree, Among, here, there}
+use Rattle.build_model.specs.Rules.{Path, Rule, Among, here, there}
 use Rattle.build_model.specs.Steps.{Step}
-use Rattle.build_model.proofs.Lists.{among_either, among_left, some_same, true_false}
+use Rattle.build_model.proofs.Lists.{among_either, among_left, true_false}
 use Rattle.build_means.specs.Logs.{AreEntries, HasStarted, nothing, is_fresh, has_begun, was_refused, has_ended, lacks_one, has_halted}
 use Rattle.build_files.specs.Firsts.{first_target_of}
-use Rattle.build_files.specs.Causes.{HasEndCause}
 use Rattle.build_files.specs.declared.end.ListEnd.{ListEnd}
 use Rattle.build_files.specs.declared.end.ListEnd.TheVariants as end
 use Rattle.turn_means.specs.Standing.{Outset}
-use Rattle.build_run.specs.Along.{is_faulted}
-use Rattle.build_run.specs.Faulted.{AddsCycle, AddsEnd, AreFaulted, AreFaultsOf, HasFaultsBy, HasNoCycle, HasNoStartFault, IsFaultedAt, IsFirstBy, IsFirstOf, IsPlain, IsPlainEnd, MayStandBeside, StandsBeside, none_yet, has_started, cycle_told, none_told, plain_told}
+use Rattle.build_run.specs.Faulted.{AddsCycle, AddsEnd, AreFaultsOf, HasFaultsBy, HasNoCycle, HasNoStartFault, IsFaultedAt, IsFirstBy, IsFirstOf, IsPlain, IsPlainEnd, MayStandBeside, StandsBeside, none_yet, cycle_told, none_told, plain_told}
 use Rattle.build_run.specs.FaultTexts.{SameTold}
 use Rattle.build_run.specs.Outsets.{IsReadyFor}
 use Rattle.build_run.specs.Takes.{HasTakeEnd}
@@ -31,7 +29,7 @@ use Rattle.build_run.specs.Unmade.{Since}
 use Rattle.build_run.specs.declared.account.Account.{Account}
 use Rattle.build_run.specs.declared.building.Options.{Options}
 use Rattle.build_run.specs.declared.site.Run.{Run}
-use Rattle.build_run.proofs.Faulted.{adds_no_cycle, adds_on, adds_same, faults_as, none_at_all, plain_look, plain_stands}
+use Rattle.build_run.proofs.Faulted.{adds_no_cycle, adds_on, adds_same, faults_as, none_at_all, plain_stands}
 
 -- ---- as it begins
 
@@ -110,13 +108,16 @@ refused_rings end.Memory old new plain same none = subst (λ (l : List BuildFaul
 
 module _ (IsJob : Rule → Job → Type 0) (AreAt : Counts → Type 0) where
   further : {entries : List Entry} (more : List Entry) {id : ℕ} → ((r : Rule) × HasStarted IsJob entries r id) → (r : Rule) × HasStarted IsJob (entries ++ more) r id
-  further more h = (h.0, record {
-    job = h.1.job;
-    counts = h.1.counts;
-    of_rule = h.1.of_rule;
-    started = among_left more h.1.started;
-    has_id = h.1.has_id;
-  })
+  further more h = (
+    h.0,
+    record {
+      job = h.1.job;
+      counts = h.1.counts;
+      of_rule = h.1.of_rule;
+      started = among_left more h.1.started;
+      has_id = h.1.has_id;
+    },
+  )
 
   last_ending : {entries : List Entry} {r : Rule} {id own : ℕ} {outcome ending : Outcome} → HasStarted IsJob entries r own →
       Among (Finished id outcome) (Finished own ending ∷ []) → (q : Rule) × HasStarted IsJob entries q id

@@ -1,19 +1,14 @@
 -- That a needed rule needs itself where a cycle is told.
-use Rattle.std.proofs.Common.{◌≡◌, ◌≢◌, ◌∙◌, ◌<◌, ◌||◌, ℕ, false, true, List, [], ◌∷◌, Contains, ap, arith, length, refl, subst, sym}
-use Rattle.std.specs.Prelude.{nat_eq}
+use Rattle.std.proofs.Common.{◌≡◌, ◌∙◌, ◌<◌, ℕ, false, true, List, [], ◌∷◌, ap, arith, length, refl, subst, sym}
 use Rattle.std.proofs.lemmas.Bool.Decides.{nat_tests}
-use Rattle.scons_base.specs.declared.ids.NodeId.{NodeId}
 use Rattle.scons_base.specs.declared.ids.RuleId.{RuleId}
-use Rattle.world_api.specs.Around.{Around, Entry}
 use Rattle.world_api.specs.Meaning.{Meaning}
 use Rattle.rule_graph.specs.Graphs.{RuleGraph}
-use Rattle.rule_graph.specs.declared.build_fault.BuildFault.{BuildFault}
 use Rattle.sign_store.specs.Stores.{map_of}
 use Rattle.sign_store.specs.Tables.{Map}
 use Rattle.sign_store.specs.declared.store.Store.{Store}
 use Rattle.task_plan.specs.Cycles.{IsCycle}
 use Rattle.task_plan.specs.Orders.{is_among}
-use Rattle.task_plan.specs.Plans.{Planned}
 use Rattle.task_plan.specs.Watched.{IsStill}
 use Rattle.build_model.specs.Moments.{Job as Given}
 use Rattle.build_model.specs.Needs.{Needed}

@@ -1,23 +1,20 @@
 -- That no job of a rule has started that couldn't be started, that one that starts has the first target that its rule has, and that what
 -- a rule lacks is missing.
-use Rattle.std.proofs.Common.{◌≡◌, ◌∙◌, ◌<◌, ◌∷◌, ◌++◌, [], ℕ, true, false, List, Option, Some, None, Contains, ap, arith, length, refl, subst, sym}
-use Rattle.std.specs.Prelude.{slice_get, nat_lt, ◌&&◌}
+use Rattle.std.proofs.Common.{◌≡◌, ◌∙◌, ◌<◌, ◌∷◌, [], ℕ, true, false, List, Option, Some, None, Contains, ap, arith, length, refl, subst, sym}
+use Rattle.std.specs.Prelude.{slice_get}
 use Rattle.std.specs.Option.{option_and_then}
-use Rattle.std.proofs.lemmas.Option.{slice_get-get_or}
 use Rattle.scons_base.specs.declared.ids.NodeId.{NodeId}
 use Rattle.scons_base.specs.declared.ids.RuleId.{RuleId}
-use Rattle.world_api.specs.Around.{Around, Entry, Started}
+use Rattle.world_api.specs.Around.{Around}
 use Rattle.world_api.specs.Meaning.{Meaning}
 use Rattle.world_api.specs.declared.job.Job.{Job}
 use Rattle.deciders.specs.declared.recorded.Rec.{Rec}
 use Rattle.rule_graph.specs.declared.rule.Rule as declared
 use Rattle.rule_graph.specs.Graphs.{RuleGraph, path_of}
 use Rattle.rule_graph.specs.Rules.{are_below}
-use Rattle.rule_graph.specs.declared.build_fault.BuildFault.{BuildFault}
-use Rattle.rule_graph.specs.declared.build_fault.BuildFault.TheVariants as fault
 use Rattle.build_model.specs.Rules.{Path, Rule, Record, Among, here}
 use Rattle.build_model.specs.Moments.{Job as Given}
-use Rattle.build_model.specs.Steps.{Step, IsMissing}
+use Rattle.build_model.specs.Steps.{Step}
 use Rattle.build_model.proofs.Lists.{among_same, none_some, some_same}
 use Rattle.build_means.specs.Builds.{jobs_at_once}
 use Rattle.build_means.specs.Grown.{Begun, begun_setting, rule_numbered}
@@ -34,8 +31,8 @@ use Rattle.turn_means.proofs.Deciding.{may_begin}
 use Rattle.turn_means.proofs.Running.{begun_place, makes_each, seen_so}
 use Rattle.build_run.specs.Along.{IsAlong, IsDue, standing_of}
 use Rattle.build_run.specs.Faulted.{IsFirstTarget, IsUnstarted}
-use Rattle.build_run.specs.Unmade.{HasNoMaker, Since}
-use Rattle.build_run.specs.Watches.{Covers, MayStart, Watch, Never}
+use Rattle.build_run.specs.Unmade.{Since}
+use Rattle.build_run.specs.Watches.{MayStart, Watch, Never}
 use Rattle.build_run.specs.declared.site.Site.{Site}
 use Rattle.build_run.proofs.Deciding.{due_allows}
 use Rattle.build_run.proofs.Skipping.{named_first}
@@ -54,11 +51,12 @@ module _ (b : Begun) (g : RuleGraph) (now : IsGraphNow b g) (number : ℕ) (r : 
   named_at : (of : declared.Rule) → slice_get g.rules number ≡ Some of → (targets : List NodeId) → of.targets ≡ targets → 0 < length targets →
       are_below (length g.nodes) targets ≡ true → (target : Path) × (first_target_of g number ≡ Some target)
   named_at of at [] same some below = absurd (omega (arith, some))
-  named_at of at (node ∷ targets) same some below =
-      (path_of g.nodes node,
-      ap (λ (o : Option declared.Rule). option_and_then (λ x. option_and_then (λ n. slice_get g.nodes n.0) (slice_get x.targets 0)) o) at
-      ∙ ap (λ (l : List NodeId). option_and_then (λ n. slice_get g.nodes n.0) (slice_get l 0)) same
-      ∙ node_path g now.reading node (front_below (length g.nodes) node targets below))
+  named_at of at (node ∷ targets) same some below = (
+    path_of g.nodes node,
+    ap (λ (o : Option declared.Rule). option_and_then (λ x. option_and_then (λ n. slice_get g.nodes n.0) (slice_get x.targets 0)) o) at
+        ∙ ap (λ (l : List NodeId). option_and_then (λ n. slice_get g.nodes n.0) (slice_get l 0)) same
+        ∙ node_path g now.reading node (front_below (length g.nodes) node targets below),
+  )
 
   pub has_first : (target : Path) × (first_target_of g number ≡ Some target) × (slice_get r.targets 0 ≡ Some target)
   has_first =
@@ -110,10 +108,11 @@ module _ {W O E : Type 0} (m : Meaning W) (o : Outset) (outset : IsOutset o) (si
   pub job_first : (job : Job) → IsJobFrom site.graph.now rule rec job →
       (target : Path) × (first_target_of site.graph.now job.id ≡ Some target) × (slice_get job.targets 0 ≡ Some target)
   job_first job from =
-      let first = has_first (begun_at o) site.graph.now known.now rule.0 due.model due.weighed.is in
-      (first.0,
-      ap (λ n. first_target_of site.graph.now n) from.id ∙ first.1,
-      ap (λ (paths : List Path). slice_get paths 0) (from.targets ∙ ap (λ (x : Record). x.targets) due.weighed.present.is) ∙ first.2)
+      let first = has_first (begun_at o) site.graph.now known.now rule.0 due.model due.weighed.is in (
+        first.0,
+        ap (λ n. first_target_of site.graph.now n) from.id ∙ first.1,
+        ap (λ (paths : List Path). slice_get paths 0) (from.targets ∙ ap (λ (x : Record). x.targets) due.weighed.present.is) ∙ first.2,
+      )
 
   -- no job of it has started
   pub none_started : is_due_now (standing_of m site) due.model rec ≡ true → length (m.around site.world.now).running < jobs_at_once o.wanted.jobs →

@@ -1,6 +1,6 @@
 -- What a build reports of its jobs: a fault of each that ended otherwise than well, by the log and in its order, and no other; of one
 -- that couldn't be started, which has no entry, a fault too.
-use Rattle.std.specs.Prelude.{◌≡◌, ◌++◌, ◌∷◌, ◌⊎◌, [], ℕ, Bool, true, false, List, Option, Some, None, Contains, length, slice_get, Result, Ok, Err}
+use Rattle.std.specs.Prelude.{◌≡◌, ◌++◌, ◌∷◌, [], ℕ, Bool, true, false, List, Option, Some, None, Contains, length, slice_get, Result, Ok, Err}
 use Rattle.scons_base.specs.declared.ids.NodeId.{NodeId}
 use Rattle.scons_base.specs.declared.ids.RuleId.{RuleId}
 use Rattle.world_api.specs.Around.{Around, Entry, Started, Finished}
@@ -19,7 +19,6 @@ use Rattle.rule_graph.specs.declared.build_fault.BuildFault.{BuildFault}
 use Rattle.rule_graph.specs.declared.build_fault.BuildFault.TheVariants as fault
 use Rattle.task_plan.specs.Cycles.{IsCycle}
 use Rattle.task_plan.specs.Plans.{Planned}
-use Rattle.task_plan.specs.declared.want.PlanEvent.{PlanEvent}
 use Rattle.task_plan.specs.declared.want.Want.{Want}
 use Rattle.build_model.specs.Rules.{Path, Rule, Setting, Among}
 use Rattle.build_model.specs.Moments.{Job as Given}

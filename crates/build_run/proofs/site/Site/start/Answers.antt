@@ -587,9 +587,10 @@ returns-clause-faulted g c = λ tells sure o outset along due is_due has.
     let same : after ≡ before = (c.in-Err.ensures.clears tells).log in
     let room = room_in m o site c.requires.sound.joined (is.passes.passes.told.told tells) along.asked due.room in
     let kept = since_log o site.graph.now before after now.account.now same
-    (since_kept o site.graph.now before site.account.now now.account.now is.told.memory (λ e. sym is.account.ended ∙ e) has is.told.faults) in
-    (subst (λ (of : RuleGraph). IsFaultedAt o of now.account.now after) (sym is.known.graph) kept,
-    start_end o site.graph.now after now.account.now site.graph.now job.id _ kept c.in-Err.ensures.faulted
-    (λ target named. since_same o.before.log before after (λ entries. IsUnstarted o entries target) same
-    (none_started m o outset site along c.args.rule c.args.now due is_due room target
-    (ap (λ id. first_target_of site.graph.now id) (sym c.in_ok-job.ensures.id) ∙ named))))
+    (since_kept o site.graph.now before site.account.now now.account.now is.told.memory (λ e. sym is.account.ended ∙ e) has is.told.faults) in (
+      subst (λ (of : RuleGraph). IsFaultedAt o of now.account.now after) (sym is.known.graph) kept,
+      start_end o site.graph.now after now.account.now site.graph.now job.id _ kept c.in-Err.ensures.faulted
+          (λ target named. since_same o.before.log before after (λ entries. IsUnstarted o entries target) same
+          (none_started m o outset site along c.args.rule c.args.now due is_due room target
+          (ap (λ id. first_target_of site.graph.now id) (sym c.in_ok-job.ensures.id) ∙ named))),
+    )
