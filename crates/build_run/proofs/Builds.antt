@@ -1,5 +1,6 @@
 -- A build, from what it began with: leftover copies went, and from there it took its steps.
-use Rattle.std.proofs.Common.{arith, ◌≡◌, ◌∙◌, ℕ, Bool, true, false, ◌||◌, List, [], Contains, length, refl, subst, sym, ap}
+use Rattle.std.proofs.Common.{arith, ◌≡◌, ◌∙◌, ℕ, Bool, true, false, ◌||◌, List, [], Contains, append-nil, length, refl, subst, sym, ap}
+use Rattle.std.proofs.lemmas.List.{append_cancel_left}
 use Rattle.std.specs.Prelude.{Result, Ok, Err, IfOk, OnErr, max, min, nat_lt}
 use Rattle.build_model.proofs.Lists.{true_false}
 use Rattle.scons_base.specs.declared.ids.NodeId.{NodeId}
@@ -10,14 +11,16 @@ use Rattle.world_api.specs.Printed.{SinkMeaning}
 use Rattle.world_api.specs.declared.hash.Hash.{Hash}
 use Rattle.rule_graph.specs.Graphs.{RuleGraph}
 use Rattle.rule_graph.specs.declared.build_fault.BuildFault.{BuildFault}
+use Rattle.rule_graph.specs.declared.build_fault.BuildFault.TheVariants as fault
 use Rattle.rule_graph.specs.Rules.{are_below}
 use Rattle.sign_store.specs.Stores.{IsKept, map_of}
 use Rattle.sign_store.specs.Ends.{image_in}
 use Rattle.sign_store.specs.Tables.{Map}
 use Rattle.sign_store.specs.declared.store.Store.{Store}
 use Rattle.build_files.specs.declared.end.ListEnd.{ListEnd}
-use Rattle.build_means.specs.Builds.{IsByContent, KeepsRecords, Wanted, build_in, graph_in, jobs_at_once, setting_in}
+use Rattle.build_means.specs.Builds.{IsByContent, IsJobIn, KeepsRecords, Wanted, build_in, graph_in, jobs_at_once, setting_in}
 use Rattle.build_means.specs.Laws.{RunsAreRight}
+use Rattle.build_means.specs.Logs.{AreUnrisen}
 use Rattle.build_means.specs.Records.{records_in}
 use Rattle.build_means.specs.Graphs.{act_by}
 use Rattle.build_model.specs.Contents.{View}
@@ -39,6 +42,7 @@ use Rattle.build_run.specs.Along.{is_faulted}
 use Rattle.build_run.specs.Ledgers.{Ledger, ledger_of, blank}
 use Rattle.build_run.specs.Output.{BuildPrints, MakesPrinted}
 use Rattle.build_run.specs.Outsets.{wanted_of, GoesByContent, BuildRuns, BuildSucceeds, HasMade, HasRun, HasSetOut, IsBlank, IsReadyFor, Leaves, MakesAll, SetsOut, SetsOutBehind, StandFor, StaysKept}
+use Rattle.build_run.specs.Faulted.{AddsEnd, AreFaultsOf, BuildFaults, IsFirstOf, IsPlainEnd, MadeFaulted, StandsBeside}
 use Rattle.build_run.specs.Forgetting.{HasForgotten}
 use Rattle.build_run.specs.Remembering.{HasRemembered}
 use Rattle.build_run.specs.Safe.{HasOutset, MakesSafely, TakesSafely}
@@ -55,6 +59,7 @@ use Rattle.build_run.proofs.StepTexts.{steps_printed}
 use Rattle.build_run.proofs.EndingOn.{not_before}
 use Rattle.build_run.proofs.Forgetting.{forgets_none, has_forgotten, watch_unmade}
 use Rattle.build_run.proofs.Remembering.{has_remembered}
+use Rattle.build_run.proofs.Reported.{refused_reported, refused_rings, reported}
 use Rattle.build_run.proofs.Safely.{safe_on}
 use Rattle.build_run.proofs.Stopped.{never_covers, none_watched, safe_first, unwatched}
 use Rattle.build_run.specs.declared.building.Options.{Options}
@@ -268,6 +273,29 @@ module _ {W : Type 0} (m : Meaning W) (g : RuleGraph) (requested : List NodeId) 
           AreSkips w (map_of mid) (has (told tells) below).left (m.around c) did.made.runs.steps faults skipped) (sym reported) (did.skips (sym same ∙ e)));
     }
 
+    -- and that what it reports comes of its log
+    pub build_faulted : (after : Account) (told : m.tells c → m.tells b) (last : Store) (now : RuleGraph) →
+        MadeFaulted m h run mid b account options now c after last →
+        (after.is_store_shut ≡ true → Rose (m.counts a).disk_faults (m.counts c).disk_faults) → StaysKept m c last after →
+        (answer : BuildEnd) → answer.is_ended ≡ after.is_ended → answer.faults ≡ after.faults.items → answer.memory ≡ after.memory →
+        BuildFaults m g requested options store a last c answer
+    unfolding made build_ran
+    build_faulted after told last now faulted rose stays answer same said noted = λ tells sure below. record {
+      run = build_ran after told last (λ t s x r. (faulted t s x r).made) rose stays answer same tells sure below;
+      faults =
+          let did = faulted tells sure (o (told tells) below) (ready (told tells) below) in
+          let log = did.made.runs.log in
+          let Told : Bool → List BuildFault → Type 0 = λ wanting faults.
+          AreFaultsOf (IsFirstOf log.entries) (StandsBeside (o (told tells) below) log.entries) wanting log.entries faults in
+          subst (λ (wanting : Bool). Told wanting answer.faults) (sym noted)
+          (subst (λ (faults : List BuildFault). Told after.memory faults) (sym said)
+          (reported (IsJobIn w (map_of mid) (has (told tells) below).left (m.around c)) (AreUnrisen w.keep (m.counts a)) (o (told tells) below) now after
+          did.made.runs.steps log.entries (m.around c).log log.are log.grown did.faults));
+      rings = λ paths h.
+          (faulted tells sure (o (told tells) below) (ready (told tells) below)).rings paths
+          (subst (λ (faults : List BuildFault). Contains faults (fault.Cycle paths)) said h);
+    }
+
     -- and that it counted what didn't end well
     pub build_counted : (after : Account) (told : m.tells c → m.tells b) (last : Store) →
         EndsAll m h run mid b account options c after last →
@@ -359,6 +387,25 @@ module _ {W : Type 0} (m : Meaning W) (g : RuleGraph) (requested : List NodeId) 
         let ran = did w (map_of mid) (m.counts a) (m.around c) (m.around c) [] [] read (begin w (map_of mid) (m.counts a) (m.around c) none) in
         has_counted m w (map_of store) a c (map_of mid) answer.is_ended answer.memory (has_refused back leaves answer ended tells) (ap running ran.1) (endings tells);
   }
+
+  pub refused_faulted : (m.tells c → m.tells a) → Leaves m a store c mid (IsLeftAt g (m.around a) (map_of store)) → (answer : BuildEnd) →
+      answer.is_ended ≡ true → (e : ListEnd) (old new : Account) → IsPlainEnd e → AddsEnd old e new → old.faults.items ≡ [] →
+      answer.faults ≡ new.faults.items → answer.memory ≡ new.memory → BuildFaults m g requested options store a mid c answer
+  refused_faulted back leaves answer ended e old new plain adds none said noted = λ tells sure below.
+      let ran = has_refused back leaves answer ended tells in
+      let entries = ran.runs.log.entries in
+      let log = (m.around c).log in
+      let o = begun_here tells below in
+      let empty : entries ≡ [] = append_cancel_left log entries [] (sym ran.runs.log.grown ∙ sym (append-nil log)) in
+      record {
+        run = ran;
+        faults =
+            subst (λ (wanting : Bool). AreFaultsOf (IsFirstOf entries) (StandsBeside o entries) wanting entries answer.faults) (sym noted)
+            (subst (λ (faults : List BuildFault). AreFaultsOf (IsFirstOf entries) (StandsBeside o entries) new.memory entries faults)
+            (sym said) (refused_reported o entries empty e old new plain adds none));
+        rings = λ paths h.
+            absurd (refused_rings e old new plain adds none paths (subst (λ (faults : List BuildFault). Contains faults (fault.Cycle paths)) said h));
+      }
 
   pub refused_untold : (after : Account) → is_faulted after ≡ true → (answer : BuildEnd) →
       (answer.faults ≡ [] → answer.memory ≡ false → is_faulted after ≡ false) → BuildSucceeds m w (map_of store) a c (map_of mid) answer

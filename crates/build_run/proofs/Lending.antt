@@ -9,6 +9,8 @@ use Rattle.build_run.specs.Ledgers.{AllAccounts}
 use Rattle.build_run.specs.Outsets.{StaysKept}
 use Rattle.build_run.specs.declared.account.Account.{Account}
 use Rattle.build_run.specs.declared.site.Site.{Site}
+use Rattle.build_run.specs.Reasons.{HasReason, SiteHasReason}
+use Rattle.build_run.specs.declared.building.Options.{Options}
 
 module _ {W O E : Type 0} (m : Meaning W) (last : Site W O E) where
   pub passes_given : (old now world : W) → last.world.now ≡ world → last.world.now ≡ now → Passes m old now → Passes m old world
@@ -41,3 +43,9 @@ pub kept_closed : {W O E : Type 0} (m : Meaning W) (before after : Site W O E) �
 kept_closed {W} m before after world store shut kept unshut =
     subst (λ (x : W). IsKept m x after.store.now) (sym world)
     (subst (λ (x : Store). IsKept m before.world.now x) (sym store) (kept (sym shut ∙ unshut)))
+
+-- and so it is with why an end came
+pub reason_given : {W O E : Type 0} (last : Site W O E) (account : Account) (options : Options) → last.account.now ≡ account → last.options ≡ options →
+    SiteHasReason last → HasReason options.keep account
+reason_given last account options lent same reason =
+    subst (λ (a : Account). HasReason options.keep a) lent (subst (λ (x : Options). HasReason x.keep last.account.now) same reason)

@@ -48,3 +48,7 @@ mod Endings
 mod Unrecorded
 mod Unmade
 mod Forgetting
+mod Faulted
+mod Unstarted
+mod Reported
+mod Rings

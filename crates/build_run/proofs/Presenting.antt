@@ -1,6 +1,6 @@
 -- What a build decides by what its rule reads.
 use Rattle.std.proofs.Common.{◌≡◌, ◌∙◌, ◌<◌, true, false, Bool, List, [], ◌∷◌, Some, length, refl, sym, subst, ap}
-use Rattle.std.specs.Prelude.{Result, Ok, IfOk}
+use Rattle.std.specs.Prelude.{Result, Ok, IfOk, slice_get}
 use Rattle.scons_base.specs.declared.ids.NodeId.{NodeId}
 use Rattle.scons_base.specs.declared.ids.RuleId.{RuleId}
 use Rattle.world_api.specs.Around.{Around, IsRunningTarget}
@@ -12,25 +12,32 @@ use Rattle.rule_graph.specs.Graphs.{path_of}
 use Rattle.task_plan.specs.Settled.{deps_of}
 use Rattle.task_plan.specs.declared.want.PlanEvent.TheVariants as told
 use Rattle.build_model.specs.Rules.{Path, Rule, Among, here}
-use Rattle.build_model.specs.Steps.{Lacks}
-use Rattle.build_model.proofs.Lists.{true_false, among_same, among_left, among_right}
+use Rattle.build_model.specs.Steps.{IsLacking, Lacks}
+use Rattle.build_model.proofs.Lists.{true_false, among_same, among_left, among_right, some_same}
 use Rattle.build_means.specs.Grown.{Begun, rule_numbered}
 use Rattle.build_means.specs.Present.{IsFirstAbsent}
 use Rattle.build_means.specs.Rules.{paths_of}
+use Rattle.build_files.specs.Firsts.{first_target_of}
 use Rattle.build_files.specs.Presence.{AreStill, IsPresentFor}
 use Rattle.build_files.specs.declared.end.ListEnd.{ListEnd}
 use Rattle.build_files.specs.declared.record.Present.{Present}
 use Rattle.build_files.specs.declared.record.Present.TheVariants as present
-use Rattle.turn_means.specs.Standing.{Outset, IsOutset, begun_at, Standing, Knows, IsAt}
+use Rattle.plan_means.proofs.Deciding.{may_be_decided}
+use Rattle.scons_report.proofs.Found.{path_at}
+use Rattle.turn_means.specs.Recording.{build_at}
+use Rattle.turn_means.proofs.Deciding.{tied}
+use Rattle.turn_means.specs.Standing.{Outset, IsOutset, begun_at, setting_at, Standing, Knows, IsAt}
 use Rattle.turn_means.specs.Laws.{HasMet, IsChosen, IsTold, IsWeighed}
 use Rattle.turn_means.proofs.Turns.{lacks}
 use Rattle.build_run.specs.Along.{GoesOn, IsAlong, IsDue, IsOn, KeepsEnds, Presents, is_faulted, standing_of}
+use Rattle.build_run.specs.Faulted.{IsWithout}
 use Rattle.build_run.specs.Sites.{most_jobs}
 use Rattle.build_run.specs.declared.building.Options.{Options}
 use Rattle.build_run.specs.declared.site.Run.{Run}
 use Rattle.build_run.specs.declared.site.Site.{Site}
 use Rattle.build_run.specs.Books.{AreBooked, book_of}
 use Rattle.build_run.proofs.Booking.{lacks_booked, shut_on}
+use Rattle.build_run.proofs.Unstarted.{own_first, source_same}
 use Rattle.build_run.proofs.Choosing.{along_looked, deps_still, goes_before, looked_for, not_ended, numbered_rule, paths_still, told_before, unread_still, weighed_on}
 
 -- the first that is missing is so still behind a look
@@ -155,6 +162,43 @@ module _ {W O E : Type 0} (m : Meaning W) (o : Outset) (outset : IsOutset o) (ol
       goes_with : (ended now : Bool) → (ended ≡ true → now ≡ true) → now ≡ false → ended ≡ false
       goes_with true now stays e = true_false (sym (stays refl) ∙ e)
       goes_with false now stays e = refl
+
+-- on this way the rule lacks it, and it was missing as the build began
+pub lacks_then : {W O E : Type 0} (m : Meaning W) (o : Outset) → IsOutset o → (old : Site W O E) (along : IsAlong m o old) (rule : RuleId) →
+    IsChosen old.run.now.plan rule → (run : Run) (after : W) → m.tells after → (result : Result Present ListEnd) →
+    Presents m old.graph.now old.run.now old.world.now rule run after result → (node : NodeId) → result ≡ Ok (present.Lacks node) → (path target : Path) →
+    slice_get old.graph.now.nodes node.0 ≡ Some path → first_target_of old.graph.now rule.0 ≡ Some target → IsWithout o path target
+lacks_then m o outset old along rule chosen run after tells result presents node ok path target at named =
+    let known = along.on.at.knows (not_ended m o old along chosen.next.goes) in
+    let around = m.around old.world.now in
+    let deps = deps_of old.run.now.plan.rules rule.0 in
+    let there = path_of old.graph.now.nodes node in
+    let still = deps_still o outset along.on.jobs (standing_of m old) along.on.past along.on.at.way known rule chosen.next in
+    let model = numbered_rule o outset along.on.jobs (standing_of m old) along.on.past along.on.at.way known rule chosen.next in
+    let read : IsPresentFor old.graph.now rule.0 deps [] around (begun_at o) (present.Lacks node) =
+    subst (λ (keys : List Path). IsPresentFor old.graph.now rule.0 deps keys around (begun_at o) (present.Lacks node)) known.none_gone
+    (subst (λ (r : Result Present ListEnd). IfOk r (IsPresentFor old.graph.now rule.0 deps old.run.now.inputs.gone.keys around (begun_at o))) ok
+    (presents.present still tells (begun_at o) known.truth)) in
+    let is = read model.0 model.1 in
+    let absent = is.1 (looked_for o outset along.on.jobs (standing_of m old) along.on.past along.on.at.way known rule chosen.next node is.0) in
+    let none = absent.is_missing in
+    let may = may_be_decided (begun_at o) old.graph.now o.wanted.requested (build_at o around) along.on.past old.run.now.plan
+    (tied o outset along.on.jobs (standing_of m old) along.on.past along.on.at.way known) rule.0 chosen.next.can chosen.next.goes in
+    subst (λ (p : Path). IsWithout o p target) (path_at old.graph.now node path at) (record {
+      rule = model.0;
+      own = own_first (begun_at o) old.graph.now known.now rule.0 model.0 model.1 target named;
+      lacks = record {
+        jobs = along.on.jobs;
+        around = around;
+        past = along.on.past;
+        way = along.on.at.way;
+        lacks = subst (λ (r : Rule). IsLacking (setting_at o) (build_at o around) along.on.past r there) (some_same (sym may.is ∙ model.1)) (may.lacks there absent);
+      };
+      missing = record {
+        no_rule = none.no_rule;
+        no_file = source_same o outset along.on.jobs around along.on.past along.on.at.way there none.no_rule ∙ none.no_file;
+      };
+    })
 
 -- behind a fault of that the build goes on, or not
 module _ {W O E : Type 0} (m : Meaning W) (o : Outset) (outset : IsOutset o) (old last : Site W O E) (along : IsAlong m o old)

@@ -242,7 +242,7 @@ first_by : (g : RuleGraph) (targets : List NodeId) (path : Path) → option_and_
 first_by g [] path h = absurd (none-some path h)
 first_by g (n ∷ targets) path h = ap (λ (o : Option Path). Some (unwrap_or o [])) h
 
-named_first : (b : Begun) (g : RuleGraph) → IsGraphNow b g → (number : ℕ) (r : Rule) (path : Path) → rule_numbered b g number ≡ Some r → first_target_of g number ≡ Some path → slice_get r.targets 0 ≡ Some path
+pub named_first : (b : Begun) (g : RuleGraph) → IsGraphNow b g → (number : ℕ) (r : Rule) (path : Path) → rule_numbered b g number ≡ Some r → first_target_of g number ≡ Some path → slice_get r.targets 0 ≡ Some path
 named_first b g now number r path is h =
     let there = numbered_stands b g now number r is in
     let named = is_named b g now.grown now.reading number there.of there.at in

@@ -26,3 +26,4 @@ pub mod Endings
 pub mod Unrecorded
 pub mod Unmade
 pub mod Forgetting
+pub mod Faulted

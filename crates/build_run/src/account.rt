@@ -27,6 +27,7 @@ impl Account {
     ghost use Rattle.std.specs.Prelude.{◌≡◌, true, false, string_bytes};
     ghost use Rattle.build_run.specs.Along.{is_faulted, IsEnd, KeepsEnds};
     ghost use Rattle.build_run.specs.Endings.{KeepsWant};
+    ghost use Rattle.build_run.specs.Faulted.{AddsEnd, AddsFault, AddsOut};
     ghost use Rattle.build_run.specs.FaultTexts.{KeepsFault, KeepsTold, SameTold, Shows, ShowsIf};
     ghost use Rattle.build_run.specs.Ledgers.{ledger_of, blank, wanting, with_fault, with_end, Keeps, Reports};
     ghost use Rattle.rule_graph.specs.declared.build_fault.BuildFault.{BuildFault};
@@ -61,6 +62,7 @@ impl Account {
         ensures texts { KeepsTold E.meaning err.old self.old err.new self.new }
         ensures noted { KeepsNoted self.old self.new }
         ensures want { KeepsWant self.old self.new }
+        ensures lists { AddsEnd self.old end self.new }
     {
         self.is_ended = true;
         match end {
@@ -87,6 +89,7 @@ impl Account {
         ensures noted { KeepsNoted self.old self.new }
         ensures want { KeepsWant self.old self.new }
         ensures notes { NotesRule self.new rule.0 fault }
+        ensures lists { AddsFault self.old fault self.new }
     {
         self.report(err, fault);
         self.note_faulty(rule);
@@ -105,6 +108,7 @@ impl Account {
         ensures noted { KeepsNoted self.old self.new }
         ensures want { KeepsWant self.old self.new }
         ensures kept { IsKeptIn self.new fault }
+        ensures lists { AddsFault self.old fault self.new }
     {
         let text = fault_text(self.alloc, &fault);
         self.keep(fault);
@@ -120,6 +124,7 @@ impl Account {
         ensures shows { ShowsIf E.meaning err.old self.old (λ s. string_bytes s) text err.new self.new }
         ensures noted { KeepsNoted self.old self.new }
         ensures faults { KeepsFaults self.old self.new }
+        ensures lists { AddsOut self.old.faults.items self.new.faults.items }
     {
         if self.is_err_shut {
             return;
@@ -139,6 +144,7 @@ impl Account {
         ensures shows { self.old.is_err_shut ≡ false → Shows E.meaning err.old self.old text.now err.new self.new }
         ensures noted { KeepsNoted self.old self.new }
         ensures faults { KeepsFaults self.old self.new }
+        ensures lists { AddsOut self.old.faults.items self.new.faults.items }
     {
         match print(err, text) {
             Ok(()) => {}
@@ -161,6 +167,7 @@ impl Account {
         ensures noted { KeepsNoted self.old self.new }
         ensures faults { KeepsFaults self.old self.new }
         ensures kept { IsKeptIn self.new fault }
+        ensures lists { AddsFault self.old fault self.new }
     {
         match self.faults.push(fault) {
             Ok(()) => {}

@@ -12,6 +12,7 @@ ghost use Rattle.build_run.specs.Causes.{BuildCauses, IsInner};
 ghost use Rattle.build_run.specs.Endings.{EndingsAreCounted, KeepsWant};
 ghost use Rattle.build_run.specs.Unrecorded.{BuildCounts, EndsAll};
 ghost use Rattle.build_run.specs.FaultTexts.{BuildTells, KeepsTold, SiteKeepsTold};
+ghost use Rattle.build_run.specs.Faulted.{AddsCycle, BuildFaults, IsCycleFault, MadeFaulted, WaitForThemselves};
 ghost use Rattle.build_run.specs.Forgetting.{Forgets};
 ghost use Rattle.build_run.specs.Goings.{Goes, Passes, Stays};
 ghost use Rattle.build_run.specs.Ledgers.{ledger_of, AllAccounts, Reports};
@@ -91,6 +92,7 @@ pub fn build<W: World, O: Sink, E: Sink>(
     ensures succeeds { SucceedsOver W.meaning graph.old requested.now options.now store.old world.old store.new world.new result }
     ensures skips { BuildSkips W.meaning graph.old requested.now options.now store.old world.old store.new world.new result }
     ensures counts { BuildCounts W.meaning graph.old requested.now options.now store.old world.old store.new world.new result }
+    ensures faulted { BuildFaults W.meaning graph.old requested.now options.now store.old world.old store.new world.new result }
     ensures safe { BuildsSafely W.meaning (wanted_of graph.old requested.now options.now) world.old world.new }
     ensures remembers { Remembers W.meaning (wanted_of graph.old requested.now options.now) (map_of store.old) world.old world.new }
     ensures forgets { Forgets W.meaning (wanted_of graph.old requested.now options.now) world.old world.new }
@@ -204,6 +206,7 @@ fn make_all<W: World, O: Sink, E: Sink>(
     ensures skips { MakesSkipping W.meaning graph.old run.old store.old world.old account.old options world.new account.new store.new result }
     ensures all { EndsAll W.meaning graph.old run.old store.old world.old account.old options world.new account.new store.new }
     ensures counts { EndingsAreCounted W.meaning world.old account.old world.new account.new }
+    ensures faulted { MadeFaulted W.meaning graph.old run.old store.old world.old account.old options graph.new world.new account.new store.new }
     ensures safe { MakesSafely W.meaning graph.old run.old store.old world.old account.old options world.new }
     ensures reason { KeepsReason options.keep account.old account.new }
     ensures texts { KeepsTold E.meaning err.old account.old err.new account.new }
@@ -241,6 +244,8 @@ impl<W: World, O: Sink, E: Sink> Site<'_, '_, W, O, E> {
         ensures holds { HoldsNeedy self.old.graph.now self.old.run.now.plan }
         ensures noted { KeepsNoted self.old.account.now self.new.account.now }
         ensures want { KeepsWant self.old.account.now self.new.account.now }
+        ensures lists { AddsCycle self.old.run.now.plan self.old.account.now self.new.account.now }
+        ensures graph { self.new.graph.now ≡ self.old.graph.now }
     {
         self.run.plan.holds(self.graph);
         let mut cycle = Vec::new(self.account.alloc);
@@ -277,6 +282,7 @@ fn tell_cycle<E: Sink>(
     ensures cycle { AreAtFault plan.now cycle.old.items → AreAtFault plan.now cycle.new.items }
     ensures noted { KeepsNoted account.old account.new }
     ensures want { KeepsWant account.old account.new }
+    ensures lists { AddsCycle plan.now account.old account.new }
 {
     plan.finishes(graph);
     if account.is_ended {
@@ -297,6 +303,8 @@ fn find_cycle(
     cycle: &mut Vec<RuleId>,
 ) -> Result<Option<BuildFault>, ListEnd>
     ensures inner { IfOk result (λ found. IfSome found IsInner) }
+    ensures told { IfOk result (λ found. IfSome found IsCycleFault) }
+    ensures real { IfOk result (λ found. IfSome found (λ fault. WaitForThemselves plan.now)) }
     ensures quiet { IsQuiet result }
     ensures none { IfOk result (λ found. IfNone found (HasNoCycle plan.now.states plan.now.rules plan.now.origins)) }
     ensures cycle { AreAtFault plan.now cycle.old.items → AreAtFault plan.now cycle.new.items }
@@ -311,6 +319,7 @@ fn find_cycle(
 /// The fault of rules that wait for themselves.
 fn cycle_of(alloc: Global, graph: &Graph, rules: &[RuleId]) -> Result<BuildFault, ListEnd>
     ensures inner { IfOk result IsInner }
+    ensures told { IfOk result IsCycleFault }
     ensures quiet { IsQuiet result }
 {
     match cycle_fault(alloc, graph, rules)? {

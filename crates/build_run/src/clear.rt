@@ -3,6 +3,7 @@ ghost use Rattle.std.specs.Prelude.{◌≡◌, ◌∷◌, [], None, true, Contai
 ghost use Rattle.build_run.specs.Along.{KeepsKnown, SameEnds};
 ghost use Rattle.build_run.specs.Books.{RefusesSo};
 ghost use Rattle.build_run.specs.FaultTexts.{SameTold};
+ghost use Rattle.build_run.specs.Faulted.{EndsPlainly};
 ghost use Rattle.build_run.specs.Goings.{ClearsAt, Stays, Leaves, AreGone, AreUnused};
 ghost use Rattle.build_files.specs.Causes.{HasLookCause};
 ghost use Rattle.build_run.specs.Outs.{IsTicketFor, KeepsSome};
@@ -47,6 +48,7 @@ impl<W: World, O: Sink, E: Sink> Site<'_, '_, W, O, E> {
         ensures texts { SameTold self.old.account.now self.new.account.now }
         ensures last { EndsLast result }
         ensures noted { SiteKeepsNoted self.old self.new }
+        ensures plain { EndsPlainly result }
     {
         let targets = job.targets.as_slice();
         make_dirs(self.account.alloc, self.world, &mut self.run.dirs, targets)?;
@@ -78,6 +80,7 @@ impl<W: World, O: Sink, E: Sink> Site<'_, '_, W, O, E> {
         ensures texts { SameTold self.old.account.now self.new.account.now }
         ensures last { EndsLast result }
         ensures noted { SiteKeepsNoted self.old self.new }
+        ensures plain { EndsPlainly result }
     {
         if !self.store.has_record(ticket) {
             return Ok(());

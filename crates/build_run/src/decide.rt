@@ -5,6 +5,7 @@ ghost use Rattle.build_run.specs.Causes.{IsInner};
 ghost use Rattle.build_run.specs.Along.{GoesAlong, MakesAlong, Presents};
 ghost use Rattle.build_run.specs.Endings.{SiteCounts};
 ghost use Rattle.build_run.specs.FaultTexts.{SiteKeepsTold};
+ghost use Rattle.build_run.specs.Faulted.{IsMissingFor, MakesFaulted, TurnsFaulted};
 ghost use Rattle.build_run.specs.Goings.{Stays};
 ghost use Rattle.world_api.specs.Looks.{Looks};
 ghost use Rattle.build_run.specs.Output.{MakesPrinting, TurnsPrinting};
@@ -45,6 +46,7 @@ impl<W: World, O: Sink, E: Sink> Site<'_, '_, W, O, E> {
         ensures counts { SiteCounts W.meaning self.old self.new }
         ensures fails { NotesDone self.new.graph.now self.new.account.now result }
         ensures plan { self.new.run.now.plan ≡ self.old.run.now.plan }
+        ensures faulted { TurnsFaulted W.meaning self.old self.new (Want.Decide rule) result }
     {
         match present(self.run, self.world, self.graph, rule)? {
             Present::Record(now) => self.make(rule, now),
@@ -77,6 +79,7 @@ impl<W: World, O: Sink, E: Sink> Site<'_, '_, W, O, E> {
         ensures counts { SiteCounts W.meaning self.old self.new }
         ensures fails { NotesDone self.new.graph.now self.new.account.now result }
         ensures plan { self.new.run.now.plan ≡ self.old.run.now.plan }
+        ensures faulted { MakesFaulted W.meaning self.old self.new rule now result }
     {
         least_is_reason();
         if !is_stale(self.world, self.graph, self.store, rule, &now)? {
@@ -124,6 +127,7 @@ fn missing_fault(graph: &Graph, rule: RuleId, node: NodeId) -> Result<BuildFault
     ensures inner { IfOk result IsInner }
     ensures quiet { IsQuiet result }
     ensures of { IfOk result (IsFaultOf graph.now rule.0) }
+    ensures missing { IfOk result (IsMissingFor graph.now rule.0 node.0) }
 {
     Ok(BuildFault::Missing {
         node: path_of(graph, node)?.copy()?,

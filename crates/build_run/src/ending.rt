@@ -3,6 +3,7 @@ ghost use Rattle.std.specs.Prelude.{◌≡◌, ◌<◌, ◌+◌, ◌++◌, ◌�
 ghost use Rattle.build_run.specs.Along.{is_faulted, EndsAlong, GoesOnAfter, HoldsFewer, KeepsEnds, KeepsKnown, StandsPut, TakesAlong};
 ghost use Rattle.build_run.specs.Endings.{KeepsWant, SiteCounts};
 ghost use Rattle.build_run.specs.FaultTexts.{KeepsTold, SiteKeepsTold};
+ghost use Rattle.build_run.specs.Faulted.{AddsOutcome, SiteKeepsFaulted};
 ghost use Rattle.build_run.specs.Goings.{Passes, IsJoined};
 ghost use Rattle.build_run.specs.Holds.{holds_in, without};
 ghost use Rattle.build_run.specs.Ledgers.{ledger_of, with_outcome, Reports};
@@ -47,6 +48,7 @@ impl<W: World, O: Sink, E: Sink> Site<'_, '_, W, O, E> {
         ensures texts { SiteKeepsTold E.meaning self.old self.new }
         ensures noted { SiteKeepsNoted self.old self.new }
         ensures counts { SiteCounts W.meaning self.old self.new }
+        ensures faulted { SiteKeepsFaulted W.meaning self.old self.new }
         ensures fails { NotesEvent self.new.graph.now self.new.account.now result }
     {
         self.put_if_few();
@@ -70,6 +72,7 @@ impl<W: World, O: Sink, E: Sink> Site<'_, '_, W, O, E> {
         ensures texts { SiteKeepsTold E.meaning self.old self.new }
         ensures noted { SiteKeepsNoted self.old self.new }
         ensures want { KeepsWant self.old.account.now self.new.account.now }
+        ensures faulted { SiteKeepsFaulted W.meaning self.old self.new }
     {
         if self.run.tickets.len() >= self.options.most_jobs() {
             return;
@@ -95,6 +98,7 @@ impl<W: World, O: Sink, E: Sink> Site<'_, '_, W, O, E> {
         ensures texts { SiteKeepsTold E.meaning self.old self.new }
         ensures noted { SiteKeepsNoted self.old self.new }
         ensures counts { SiteCounts W.meaning self.old self.new }
+        ensures faulted { SiteKeepsFaulted W.meaning self.old self.new }
         ensures fails { NotesEvent self.new.graph.now self.new.account.now result }
     {
         let ended = wait(self.world, self.run, &self.options);
@@ -140,6 +144,7 @@ impl<W: World, O: Sink, E: Sink> Site<'_, '_, W, O, E> {
         ensures texts { SiteKeepsTold E.meaning self.old self.new }
         ensures noted { SiteKeepsNoted self.old self.new }
         ensures want { KeepsWant self.old.account.now self.new.account.now }
+        ensures faulted { SiteKeepsFaulted W.meaning self.old self.new }
     {
         let Ticketed { hold, ticket } = busy;
         self.run.held.add(hold, ticket);
@@ -166,6 +171,7 @@ impl<W: World, O: Sink, E: Sink> Site<'_, '_, W, O, E> {
         ensures texts { SiteKeepsTold E.meaning self.old self.new }
         ensures noted { SiteKeepsNoted self.old self.new }
         ensures want { KeepsWant self.old.account.now self.new.account.now }
+        ensures faulted { SiteKeepsFaulted W.meaning self.old self.new }
     {
         if self.account.is_store_shut {
             self.run.held.clear();
@@ -220,6 +226,7 @@ fn not_done<E: Sink>(
     ensures notes { IsNotedIn graph.now account.new rule.0 }
     ensures want { KeepsWant account.old account.new }
     ensures wants { outcome ≡ Outcome.NoMemory → account.new.memory ≡ true }
+    ensures lists { AddsOutcome graph.now rule.0 outcome account.old account.new }
 {
     let Ok(target) = first_target(graph, rule) else {
         account.want_memory();

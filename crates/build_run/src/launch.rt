@@ -5,6 +5,7 @@ ghost use Rattle.build_run.specs.Along.{IsWellStill, KeepsKnown, SameEnds};
 ghost use Rattle.build_run.specs.Books.{RefusesSo};
 ghost use Rattle.build_run.specs.Endings.{KeepsWant};
 ghost use Rattle.build_run.specs.FaultTexts.{SameTold, SiteKeepsTold};
+ghost use Rattle.build_run.specs.Faulted.{EndsAtStart, IsStartEnd};
 ghost use Rattle.build_run.specs.Goings.{Passes, ClearsAt, LaunchesAt, IsJoined, AreAbsent};
 ghost use Rattle.world_api.specs.Laws.{StartsJob};
 ghost use Rattle.world_api.specs.Printing.{Cuts, Prints};
@@ -58,6 +59,8 @@ impl<W: World, O: Sink, E: Sink> Site<'_, '_, W, O, E> {
         ensures cuts { OnErr result (PrintsLast O.meaning self.old.out.now self.new.out.now text.now) }
         ensures noted { SiteKeepsNoted self.old self.new }
         ensures want { KeepsWant self.old.account.now self.new.account.now }
+        ensures told { SameTold self.old.account.now self.new.account.now }
+        ensures faulted { EndsAtStart self.old.graph.now job.id result }
     {
         self.clear(&job, ticket)?;
         show(self.account, self.out, text)?;
@@ -108,6 +111,7 @@ fn begin<W: World>(
     ensures starts { W.meaning.tells world.new → OnOk result (StartsJob W.meaning job world.old world.new) }
     ensures asks { OnErr result (ClearsAt W.meaning [] world.old world.new) }
     ensures safe { GoesSafely W.meaning world.old world.new }
+    ensures faulted { EndsAtStart graph.now job.id result }
 {
     let rule = RuleId(job.id);
     match world.start(job) {
@@ -119,7 +123,8 @@ fn begin<W: World>(
 
 /// The fault that the action of a rule wasn't started.
 fn unstarted(graph: &Graph, rule: RuleId) -> ListEnd
-    ensures { IsUnstarted result }
+    ensures unstarted { IsUnstarted result }
+    ensures named { IsStartEnd graph.now rule.0 result }
 {
     match first_target(graph, rule) {
         Ok(target) => ListEnd::Fault(BuildFault::StartFault(target)),

@@ -6,6 +6,7 @@ ghost use Rattle.build_run.specs.Along.{StartsAlong};
 ghost use Rattle.build_run.specs.Output.{StartsPrinting};
 ghost use Rattle.build_run.specs.Endings.{SiteCounts};
 ghost use Rattle.build_run.specs.FaultTexts.{SiteKeepsTold};
+ghost use Rattle.build_run.specs.Faulted.{StartsFaulted};
 ghost use Rattle.build_run.specs.Noted.{SiteKeepsNoted};
 ghost use Rattle.build_run.specs.Reasons.{EndsLast, SiteKeepsReason};
 ghost use Rattle.build_run.specs.Safe.{StartsSafely};
@@ -52,6 +53,7 @@ impl<W: World, O: Sink, E: Sink> Site<'_, '_, W, O, E> {
         ensures printing { StartsPrinting W.meaning O.meaning self.old self.new rule now (string_bytes why) result }
         ensures noted { SiteKeepsNoted self.old self.new }
         ensures counts { SiteCounts W.meaning self.old self.new }
+        ensures faulted { StartsFaulted W.meaning self.old self.new rule now result }
         ensures plan { self.new.run.now.plan ≡ self.old.run.now.plan }
     {
         if self.account.is_store_shut {

@@ -3,6 +3,7 @@ ghost use Rattle.std.specs.Prelude.{◌≡◌, ◌≢◌, ◌⊎◌, ◌≤◌, 
 ghost use Rattle.build_run.specs.Along.{ComesOn, GoesAlong, IsReliable, IsSpent, IsWantedOf, RestsAlong, StaysAlong, StepsOr, Tells, TellsAlong};
 ghost use Rattle.build_run.specs.Endings.{KeepsWant, SiteCounts};
 ghost use Rattle.build_run.specs.FaultTexts.{KeepsTold, SameTold, SiteKeepsTold};
+ghost use Rattle.build_run.specs.Faulted.{AddsDone, GoesFaulted, SiteKeepsFaulted, TellsFaulted, TurnsFaulted};
 ghost use Rattle.build_run.specs.Outsets.{StaysKept};
 ghost use Rattle.build_run.specs.Ledgers.{ledger_of, with_done, Accounts, Keeps, Reports};
 ghost use Rattle.build_run.specs.Output.{IsQuiet, PrintsAlong, TurnsPrinting};
@@ -40,6 +41,7 @@ impl<W: World, O: Sink, E: Sink> Site<'_, '_, W, O, E> {
         ensures texts { SiteKeepsTold E.meaning self.old self.new }
         ensures noting { SiteStaysNoting self.old self.new }
         ensures counts { SiteCounts W.meaning self.old self.new }
+        ensures faulted { GoesFaulted W.meaning self.old self.new }
     {
         self.take_turns();
         self.wait_for_all();
@@ -63,6 +65,7 @@ impl<W: World, O: Sink, E: Sink> Site<'_, '_, W, O, E> {
         ensures texts { SiteKeepsTold E.meaning self.old self.new }
         ensures noting { SiteStaysNoting self.old self.new }
         ensures counts { SiteCounts W.meaning self.old self.new }
+        ensures faulted { GoesFaulted W.meaning self.old self.new }
     {
         for _turn in 0..u64::MAX {
             let wanted = want(self.run, &self.options);
@@ -91,6 +94,7 @@ impl<W: World, O: Sink, E: Sink> Site<'_, '_, W, O, E> {
         ensures texts { SiteKeepsTold E.meaning self.old self.new }
         ensures noting { SiteStaysNoting self.old self.new }
         ensures counts { SiteCounts W.meaning self.old self.new }
+        ensures faulted { SiteKeepsFaulted W.meaning self.old self.new }
     {
         let running = self.run.tickets.len();
         for _turn in 0..running {
@@ -121,6 +125,7 @@ impl<W: World, O: Sink, E: Sink> Site<'_, '_, W, O, E> {
         ensures texts { SiteKeepsTold E.meaning self.old self.new }
         ensures noting { NotesDone self.old.graph.now self.old.account.now done → SiteStaysNoting self.old self.new }
         ensures want { KeepsWant self.old.account.now self.new.account.now }
+        ensures faulted { TellsFaulted W.meaning self.old self.new done }
     {
         tell(self.graph, &mut self.run.plan, self.account, self.err, done);
         halt(self.graph, &mut self.run.plan, self.account);
@@ -144,6 +149,7 @@ impl<W: World, O: Sink, E: Sink> Site<'_, '_, W, O, E> {
         ensures counts { SiteCounts W.meaning self.old self.new }
         ensures fails { NotesDone self.new.graph.now self.new.account.now result }
         ensures plan { self.new.run.now.plan ≡ self.old.run.now.plan }
+        ensures faulted { TurnsFaulted W.meaning self.old self.new wanted result }
     {
         match wanted {
             Want::Scan(rule, file) => self.scan(rule, file),
@@ -168,6 +174,7 @@ impl<W: World, O: Sink, E: Sink> Site<'_, '_, W, O, E> {
         ensures counts { SiteCounts W.meaning self.old self.new }
         ensures fails { NotesDone self.new.graph.now self.new.account.now result }
         ensures plan { self.new.run.now.plan ≡ self.old.run.now.plan }
+        ensures faulted { TurnsFaulted W.meaning self.old self.new (Want.Scan rule file) result }
     {
         let found = self.run.inputs.scanned(self.world, self.graph, rule, file)?;
         self.graph.laws();
@@ -225,6 +232,7 @@ fn tell<E: Sink>(
     ensures texts { KeepsTold E.meaning err.old account.old err.new account.new }
     ensures noted { KeepsNoted account.old account.new }
     ensures want { KeepsWant account.old account.new }
+    ensures lists { AddsDone account.old done account.new }
 {
     match done {
         Ok(event) => step(graph, plan, account, event),

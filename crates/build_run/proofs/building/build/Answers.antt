@@ -14,6 +14,8 @@ use Rattle.build_run.proofs.Reporting.{begins_told, build_tells}
 use Rattle.build_run.specs.Ledgers.{Ledger}
 use Rattle.build_run.proofs.Builds.{build_counted, refused_counts}
 use Rattle.build_run.proofs.Endings.{all_counted, none_counted}
+use Rattle.build_run.proofs.Builds.{build_faulted, refused_faulted}
+use Rattle.build_run.proofs.Reported.{plain_take}
 use Rattle.build_run.proofs.building.build.Goals as goal
 
 pub make_all-skipped-requires : goal.make_all-skipped-requires
@@ -262,3 +264,28 @@ returns-in-Err-clause-counts g c =
     world c.args.store.now c.set_out.new.store c.requires.idle c.set_out.ensures.goes.passes.told.told c.in-Err.ensures.rest
     c.answer-in-Err.result (c.answer-in-Err.ensures.ended ∙ c.end.ensures.ends.ended)
     (none_counted m c.args.world.now world world c.answer-in-Err.result.memory c.set_out.ensures.goes.passes.later c.set_out.ensures.log)
+
+pub returns-in-Ok-clause-faulted : goal.returns-in-Ok-clause-faulted
+returns-in-Ok-clause-faulted g c =
+    let start = outside (g.W.Disk.meaning.counts c.args.world.now) (g.O.Sink.meaning.faults c.args.out.now) (g.E.Sink.meaning.faults c.args.err.now) in
+    let first = account_as start start blank (ledger_of c.new-account.result) c.new-account.ensures.ledger (at_first start) in
+    let made = c.make_all-skipped.ensures.accounts start (same_counts start (ledger_of c.new-account.result) _ _ _ _ c.in-Ok.ensures.cause first) in
+    let read : IsReading c.args.graph.now = record { apart = c.laws.ensures.apart; single = c.laws.ensures.single; named = c.laws.ensures.named } in
+    build_faulted g.W.Disk.meaning c.args.graph.now c.args.requested.now c.args.options.now read c.args.world.now c.set_out.new.world
+    c.make_all-skipped.new.world c.args.store.now c.set_out.new.store c.requires.idle c.set_out.new.graph c.in-Ok.run' c.new-account.result
+    c.set_out.ensures.goes.passes.told.told c.in-Ok.ensures.cause
+    c.in-Ok.ensures.sets (is_blank c.new-account.result c.new-account.ensures.ledger c.new-account.ensures.ended)
+    (g.met.W.Disk.reads_as c.set_out.new.world) c.in-Ok.ensures.kept c.make_all-skipped.ensures.passes.told.sure c.set_out.ensures.safe
+    c.runs_are_right.ensures
+    c.make_all-skipped.new.account c.make_all-skipped.ensures.passes.told.told
+    c.make_all-skipped.new.store c.make_all-skipped.new.graph c.make_all-skipped.ensures.faulted made.shut c.make_all-skipped.ensures.stored
+    c.answer.result c.answer.ensures.ended c.answer.ensures.faults c.answer.ensures.memory
+
+pub returns-in-Err-clause-faulted : goal.returns-in-Err-clause-faulted
+returns-in-Err-clause-faulted g c =
+    let read : IsReading c.args.graph.now = record { apart = c.laws.ensures.apart; single = c.laws.ensures.single; named = c.laws.ensures.named } in
+    refused_faulted g.W.Disk.meaning c.args.graph.now c.args.requested.now c.args.options.now read c.args.world.now c.set_out.new.world
+    c.set_out.new.world c.args.store.now c.set_out.new.store c.requires.idle c.set_out.ensures.goes.passes.told.told c.in-Err.ensures.rest
+    c.answer-in-Err.result (c.answer-in-Err.ensures.ended ∙ c.end.ensures.ends.ended) c.in-Err.end c.new-account.result c.end.new.self
+    (plain_take _ _ _ c.in-Err.ensures.cause) c.end.ensures.lists (ap (λ (l : Ledger). l.faults) c.new-account.ensures.ledger)
+    c.answer-in-Err.ensures.faults c.answer-in-Err.ensures.memory

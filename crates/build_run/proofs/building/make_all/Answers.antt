@@ -3,7 +3,7 @@ use Rattle.sign_store.specs.Stores.{map_of}
 use Rattle.build_run.proofs.Choosing.{goes_before}
 use Rattle.build_run.proofs.BuildPrinting.{goes_printed, makes_given}
 use Rattle.build_run.proofs.Finishing.{first_along, has_made, made_given}
-use Rattle.build_run.proofs.Lending.{accounts_given, idle_given, kept_closed, passes_given, stored_given}
+use Rattle.build_run.proofs.Lending.{accounts_given, idle_given, kept_closed, passes_given, reason_given, stored_given}
 use Rattle.build_run.proofs.Sites.{sound_first}
 use Rattle.build_run.proofs.Skipping.{has_skipped, none_noted, skipped_given}
 use Rattle.build_run.proofs.Stopped.{along_first}
@@ -11,6 +11,11 @@ use Rattle.build_run.proofs.Turning.{first_safe, safe_given}
 use Rattle.build_run.proofs.Reporting.{told_given}
 use Rattle.build_run.proofs.Endings.{counts_given, counts_on, counts_still}
 use Rattle.build_run.proofs.Unrecorded.{all_given, has_made_all}
+use Rattle.build_run.proofs.Reported.{first_faulted}
+use Rattle.build_run.proofs.Rings.{faulted_given, has_made_faulted}
+use Rattle.std.proofs.Common.{subst, sym}
+use Rattle.rule_graph.specs.Graphs.{RuleGraph}
+use Rattle.build_run.specs.Faulted.{HasMadeFaulted}
 use Rattle.build_run.proofs.building.make_all.Goals as goal
 
 pub go_on-requires : goal.go_on-requires
@@ -146,3 +151,31 @@ returns-clause-counts g c =
     c.close.ensures.world
     (counts_on m c.args.world.now c.args.account.now mid.world.now mid.account.now mid.world.now c.close.new.self.account.now (λ t. t)
     c.go_on.ensures.counts (counts_still m mid.world.now mid.account.now c.close.new.self.account.now c.close.ensures.want))
+
+pub returns-clause-faulted : goal.returns-clause-faulted
+returns-clause-faulted g c = λ tells sure o ready.
+    let m = g.W.Disk.meaning in
+    let mid = c.go_on.new.self in
+    let last = c.close.new.self in
+    let same = c.close.ensures.same in
+    let passes = c.go_on.ensures.passes.same in
+    let lent_world = same.world ∙ passes.world in
+    let lent_account = same.account ∙ passes.account in
+    let lent_store = same.store ∙ passes.store in
+    let lent_graph = same.graph ∙ passes.graph in
+    let along = first_along m o _ ready c.requires.held c.requires.none in
+    faulted_given m last o mid.world.now _ _ c.store-1.given.0 c.graph-1.given.0 (search rules) (search rules) (search rules) (search rules) c.close.ensures.world
+    (λ t s. subst (λ (of : RuleGraph). HasMadeFaulted o of (m.around mid.world.now) last.account.now (map_of last.store.now)) (sym c.close.ensures.graph)
+    (has_made_faulted m o ready.outset mid last.account.now (c.go_on.ensures.on t s o ready.outset along) (c.go_on.ensures.idle t)
+    (c.go_on.ensures.still t s o ready.outset along) c.close.ensures.ends c.close.ensures.finishes c.finished_succeed.ensures
+    c.go_on.ensures.put c.close.ensures.shut (map_of last.store.now) (ap map_of c.close.ensures.store) c.close.ensures.want c.close.ensures.lists
+    (c.go_on.ensures.faulted t s o ready.outset along (first_faulted m o _ _ _ _ _ _ ready))))
+    tells sure
+
+pub returns-clause-reason : goal.returns-clause-reason
+returns-clause-reason g c = λ reason.
+    let same = c.close.ensures.same in
+    let passes = c.go_on.ensures.passes.same in
+    let lent_account = same.account ∙ passes.account in
+    reason_given c.close.new.self c.account-1.given.0 c.args.options (search rules) (same.options ∙ passes.options)
+    (c.close.ensures.reason (c.go_on.ensures.reason reason))

@@ -14,7 +14,7 @@ pub returns-in-Ok-clause-started : goal.returns-in-Ok-clause-started
 returns-in-Ok-clause-started g c = joined_started g.W.Disk.meaning c.args.world.now c.start.new.self (holds_in c.args.run.now.tickets) c.args.job c.start.ensures.told.told (λ t. c.in-Ok.ensures.started t) c.requires.apart c.requires.joined
 
 pub returns-in-Err-Fault-clause-cause : goal.returns-in-Err-Fault-clause-cause
-returns-in-Err-Fault-clause-cause g c = refused_start _ _ _ (c.in-Err-Fault.ensures.rose (cc c.in-Err-Fault.field-0-is)) c.unstarted.ensures
+returns-in-Err-Fault-clause-cause g c = refused_start _ _ _ (c.in-Err-Fault.ensures.rose (cc c.in-Err-Fault.field-0-is)) c.unstarted.ensures.unstarted
 
 pub returns-in-Err-Fault-clause-asks : goal.returns-in-Err-Fault-clause-asks
 returns-in-Err-Fault-clause-asks g c = clears_asked g.W.Disk.meaning [] c.args.world.now c.start.new.self (λ t. c.in-Err-Fault.ensures.refused t)
@@ -37,3 +37,6 @@ pub returns-in-Err-Memory-clause-safe : goal.returns-in-Err-Memory-clause-safe
 returns-in-Err-Memory-clause-safe g c = λ s safe.
     let is = c.start.ensures in
     safe_asked g.W.Disk.meaning s c.args.world.now c.start.new.self is.told is.banks is.time safe (λ t. c.in-Err-Memory.ensures.refused t)
+
+pub returns-in-Err-Fault-clause-faulted : goal.returns-in-Err-Fault-clause-faulted
+returns-in-Err-Fault-clause-faulted g c = c.unstarted.ensures.named

@@ -1,6 +1,7 @@
 use Rattle.build_run.proofs.Noting.{noted_or}
 use Rattle.build_run.proofs.Reasons.{ended_before}
 use Rattle.build_run.proofs.Reporting.{same_told}
+use Rattle.build_run.proofs.Faulted.{adds_same}
 use Rattle.build_run.proofs.account.Account.fail.Goals as goal
 
 pub returns-clause-noted : goal.returns-clause-noted
@@ -20,3 +21,7 @@ returns-clause-texts g c = λ start has.
 
 pub returns-clause-want : goal.returns-clause-want
 returns-clause-want g c = λ ample. c.report.ensures.want (c.note_faulty.ensures.same.memory ample)
+
+pub returns-clause-lists : goal.returns-clause-lists
+returns-clause-lists g c =
+    adds_same _ _ c.args.fault _ _ _ c.note_faulty.ensures.same.memory c.note_faulty.ensures.same.faults c.report.ensures.lists

@@ -8,6 +8,7 @@ use Rattle.build_run.proofs.Causing.{account_as, as_faults, dropped}
 use Rattle.build_model.proofs.Lists.{true_false}
 use Rattle.std.proofs.Common.{◌∙◌, sym}
 use Rattle.build_run.proofs.account.Account.keep.Goals.{in-Ok, in-Err}
+use Rattle.build_run.proofs.Faulted.{kept_fault, lost_fault}
 use Rattle.build_run.proofs.account.Account.keep.Goals as goal
 
 pub returns-clause-noted : goal.returns-clause-noted
@@ -48,4 +49,10 @@ returns-clause-adds c = elim c.match-push.branch [
     memory = λ m. true_false (sym w.want_memory.ensures.memory ∙ m);
     faults = λ m. true_false (sym w.want_memory.ensures.memory ∙ m);
   })
+]
+
+pub returns-clause-lists : goal.returns-clause-lists
+returns-clause-lists c = elim c.match-push.branch [
+  | in-Ok w ↦ rw w.self-is (kept_fault _ c.args.fault _ _ w.in-Ok.ensures.items)
+  | in-Err w ↦ rw w.self-is (lost_fault _ c.args.fault _ _ w.want_memory.ensures.memory (w.want_memory.ensures.same.faults ∙ w.in-Err.ensures.items))
 ]

@@ -1,6 +1,7 @@
 use Rattle.std.specs.Prelude.{string_bytes}
 use Rattle.build_run.proofs.Reporting.{reported, shows_this}
 use Rattle.build_run.proofs.Endings.{shown_if}
+use Rattle.build_run.proofs.Faulted.{adds_shown}
 use Rattle.build_run.proofs.account.Account.report.Goals as goal
 
 pub returns-clause-texts : goal.returns-clause-texts
@@ -21,3 +22,9 @@ returns-clause-want g c = λ ample.
     c.keep.ensures.adds.memory
     (shown_if g.E.Sink.meaning c.args.err.now c.keep.new.self c.show.new.err c.show.new.self (λ s. string_bytes s) c.fault_text-text.result
     c.show.ensures.shows ample)
+
+pub returns-clause-lists : goal.returns-clause-lists
+returns-clause-lists g c =
+    adds_shown _ _ c.args.fault _
+    (shown_if g.E.Sink.meaning c.args.err.now c.keep.new.self c.show.new.err c.show.new.self (λ s. string_bytes s) c.fault_text-text.result c.show.ensures.shows)
+    c.keep.ensures.lists c.show.ensures.lists

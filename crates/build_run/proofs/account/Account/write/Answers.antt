@@ -2,6 +2,8 @@ use Rattle.build_run.specs.Ledgers.{ledger_of}
 use Rattle.build_run.proofs.Causing.{err_fault}
 use Rattle.build_run.specs.FaultTexts.{is_printed, is_refused}
 use Rattle.std.proofs.Common.{refl}
+use Rattle.build_run.proofs.Faulted.{fault_out}
+use Rattle.build_run.specs.Faulted.{none_added}
 use Rattle.build_run.proofs.account.Account.write.Goals as goal
 
 pub returns-in-Err-clause-reports : goal.returns-in-Err-clause-reports
@@ -17,3 +19,9 @@ pub returns-in-Err-clause-shows : goal.returns-in-Err-clause-shows
 returns-in-Err-clause-shows g c = λ free.
     let kept = c.keep.ensures.adds in
     is_refused free c.in-Err.ensures.err kept.shut kept.memory kept.faults
+
+pub returns-in-Ok-clause-lists : goal.returns-in-Ok-clause-lists
+returns-in-Ok-clause-lists g c = none_added
+
+pub returns-in-Err-clause-lists : goal.returns-in-Err-clause-lists
+returns-in-Err-clause-lists g c = fault_out _ _ c.keep.ensures.lists

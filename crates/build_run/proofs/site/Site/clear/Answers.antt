@@ -10,6 +10,7 @@ use Rattle.build_run.proofs.Goings.{goes_on, are_unused}
 use Rattle.build_run.proofs.Outs.{withdrawn_on}
 use Rattle.build_run.proofs.Sites.{cleared_by, sound_still}
 use Rattle.build_run.proofs.Causing.{exit_same, same_counts, look_end, looked}
+use Rattle.build_run.proofs.Faulted.{plain_exit, plain_look, plain_result}
 use Rattle.build_run.proofs.site.Site.clear.Goals as goal
 
 pub withdraw-requires-clause-sound : goal.withdraw-requires-clause-sound
@@ -154,3 +155,12 @@ returns-clause-safe g c =
     (subst (λ (paths : List (List ℕ)). ClearsAt m paths c.withdraw.new.self.world.now c.remove_all.new.world) c.as_slice-targets.ensures c.remove_all.ensures.clears)
     (same_tickets c.withdraw.new.self.store.now) (λ busy h. h) refl (λ unshut. unshut)
     (unheld_still c.args.self.now.run.now.held c.withdraw.new.self.run.now.held c.args.job.now.targets c.withdraw.ensures.held c.requires.ready.beside))
+
+pub returns-in_err-make_dirs-clause-plain : goal.returns-in_err-make_dirs-clause-plain
+returns-in_err-make_dirs-clause-plain g c = plain_exit c.from_residual.result _ c.from_residual.ensures.1 (plain_look _ _ _ c.in_err-make_dirs.ensures.cause)
+
+pub returns-in_err-withdraw-clause-plain : goal.returns-in_err-withdraw-clause-plain
+returns-in_err-withdraw-clause-plain g c = plain_exit c.from_residual-in_err-withdraw.result _ c.from_residual-in_err-withdraw.ensures.1 c.in_err-withdraw.ensures.plain
+
+pub returns-clause-plain : goal.returns-clause-plain
+returns-clause-plain g c = plain_result _ _ c.remove_all.result c.remove_all.ensures.cause

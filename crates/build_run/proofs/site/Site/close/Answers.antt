@@ -7,6 +7,7 @@ use Rattle.build_run.proofs.Skipping.{none_at_fault}
 use Rattle.build_run.specs.Ledgers.{ledger_of, wanting}
 use Rattle.build_run.proofs.Causing.{wanted, account_as}
 use Rattle.build_run.proofs.Reporting.{same_told}
+use Rattle.build_run.proofs.Reported.{cycle_then}
 use Rattle.build_run.proofs.site.Site.close.Goals as goal
 
 pub skipped-requires : goal.skipped-requires
@@ -38,3 +39,10 @@ returns-clause-skips g c = λ going. true_false (sym c.want_memory.ensures.ends.
 
 pub returns-clause-want : goal.returns-clause-want
 returns-clause-want g c = λ ample. c.tell_cycle.ensures.want (c.want_memory.ensures.same.memory ample)
+
+pub returns-in-Ok-clause-lists : goal.returns-in-Ok-clause-lists
+returns-in-Ok-clause-lists g c = c.tell_cycle.ensures.lists
+
+pub returns-clause-lists : goal.returns-clause-lists
+returns-clause-lists g c =
+    cycle_then c.args.self.now.run.now.plan c.args.self.now.account.now c.tell_cycle.new.account c.want_memory.new.self c.want_memory.ensures.same c.tell_cycle.ensures.lists

@@ -13,6 +13,9 @@ use Rattle.build_run.proofs.Reasons.{last_exit, last_inside}
 use Rattle.build_run.proofs.Choosing.{goes_before}
 use Rattle.build_run.proofs.Printing.{quiet_looked, quiet_prints, quiet_turn}
 use Rattle.build_run.proofs.Endings.{counts_looked, counts_on}
+use Rattle.build_run.proofs.Faulted.{leads_plainly, plain_exit, plain_inside, plain_look, since_log, since_missing}
+use Rattle.build_run.proofs.Presenting.{lacks_then}
+use Rattle.build_run.specs.Faulted.{IsWithout}
 use Rattle.build_run.proofs.site.Site.decide.Goals as goal
 
 pub returns-in_ok-missing-in-Lacks-clause-fails : goal.returns-in_ok-missing-in-Lacks-clause-fails
@@ -206,3 +209,49 @@ returns-in-Record-clause-counts g c =
     let now = c.make.new.self in
     counts_on m site.world.now site.account.now world site.account.now now.world.now now.account.now c.make.ensures.passes.passes.told.told
     (counts_looked m site.world.now site.account.now world site.account.now (λ ample. ample) p.stays.goes.passes.later p.looks) c.make.ensures.counts
+
+pub returns-in_err-now-clause-faulted : goal.returns-in_err-now-clause-faulted
+returns-in_err-now-clause-faulted g c = λ tells sure o outset along wanted has.
+    let m = g.W.Disk.meaning in
+    let site = c.args.self.now in
+    let r = c.from_residual in
+    leads_plainly o site.graph.now site.account.now _ r.result (plain_exit r.result _ r.ensures.1 (plain_look _ _ _ c.in_err-now.ensures.cause))
+    (since_log o site.graph.now (m.around site.world.now).log _ site.account.now (c.present.ensures.looks.around tells).log has)
+
+pub returns-in_err-missing-in-Lacks-clause-faulted : goal.returns-in_err-missing-in-Lacks-clause-faulted
+returns-in_err-missing-in-Lacks-clause-faulted g c = λ tells sure o outset along wanted has.
+    let m = g.W.Disk.meaning in
+    let site = c.args.self.now in
+    let r = c.from_residual-in_err-missing-in-Lacks in
+    leads_plainly o site.graph.now site.account.now _ r.result (plain_exit r.result _ r.ensures.1 (plain_inside _ c.in_err-missing-in-Lacks.ensures.quiet))
+    (since_log o site.graph.now (m.around site.world.now).log _ site.account.now (c.present.ensures.looks.around tells).log has)
+
+pub returns-in_ok-missing-in-Lacks-clause-faulted : goal.returns-in_ok-missing-in-Lacks-clause-faulted
+returns-in_ok-missing-in-Lacks-clause-faulted g c = λ tells sure o outset along wanted has.
+    let m = g.W.Disk.meaning in
+    let site = c.args.self.now in
+    let p = c.present.ensures in
+    let f = c.fail.ensures in
+    let none = c.in_ok-missing-in-Lacks.ensures.missing in
+    let asks = p.looks.around tells in
+    let lacks : IsWithout o none.path none.target =
+    lacks_then m o outset site along c.args.rule wanted.0 c.present.new.run c.present.new.world tells (Ok c.in_ok-now.field-0)
+    c.in_ok-now.ensures.presents c.in-Lacks.node (cc c.in-Lacks.is) none.path none.target none.at none.named in
+    let seen = since_log o site.graph.now (m.around site.world.now).log _ site.account.now asks.log has in
+    since_missing o site.graph.now _ site.account.now c.fail.new.self f.want (λ e. goes_before site.account.now c.fail.new.self f.ends e) seen
+    c.in_ok-missing-in-Lacks.missing none.path none.target none.is lacks f.lists
+
+pub returns-in-Record-clause-faulted : goal.returns-in-Record-clause-faulted
+returns-in-Record-clause-faulted g c = λ tells sure o outset along wanted has.
+    let m = g.W.Disk.meaning in
+    let site = c.args.self.now in
+    let p = c.present.ensures in
+    let before = c.make.ensures.passes.passes.told.told tells in
+    let asks = p.looks.around before in
+    c.make.ensures.faulted tells sure o outset
+    (along_present m o outset site _ along c.args.rule wanted.0 asks refl refl refl refl p.rest before (Ok c.in_ok-now.field-0)
+    c.in_ok-now.ensures.presents c.in_ok-now.ensures.cause)
+    (due_present m o outset site _ along c.args.rule wanted.0 asks refl refl refl refl p.rest before (Ok c.in_ok-now.field-0)
+    c.in_ok-now.ensures.presents c.in_ok-now.ensures.cause c.in-Record.now (cc c.in-Record.is)
+    (g.met.W.World.held site.world.now (p.looks.told.told before)) wanted.1)
+    (since_log o site.graph.now (m.around site.world.now).log _ site.account.now asks.log has)

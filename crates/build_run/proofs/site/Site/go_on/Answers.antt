@@ -80,3 +80,12 @@ returns-clause-counts g c =
     site_counts_on m c.args.self.now c.wait_for_all.new.self c.put_held.new.self put.puts.goes.passes.told.told
     (site_counts_on m c.args.self.now c.take_turns.new.self c.wait_for_all.new.self waits.passes.passes.told.told c.take_turns.ensures.counts waits.counts)
     (site_counts_put m c.wait_for_all.new.self c.put_held.new.self put.puts put.want)
+
+pub returns-clause-faulted : goal.returns-clause-faulted
+returns-clause-faulted g c = λ tells sure o outset along has.
+    let waits = c.wait_for_all.ensures in
+    let put = c.put_held.ensures in
+    let first = put.puts.goes.passes.told.told tells in
+    let is = put.puts.goes.passes.told.sure tells sure in
+    let told = waits.passes.passes.told in
+    put.faulted tells o (waits.faulted first o (c.take_turns.ensures.faulted (told.told first) (told.sure first is) o outset along has))

@@ -66,3 +66,9 @@ pub returns-clause-safe : goal.returns-clause-safe
 returns-clause-safe g c = λ k safe tickets.
     let put = c.put_held.ensures.safe k (held_now g.W.Disk.meaning c.args.busy c.args.self.now _ refl refl c.add.ensures refl refl k safe tickets) in
     record { moments = put.moments; now = put.now }
+
+pub returns-then-len-most_jobs-clause-faulted : goal.returns-then-len-most_jobs-clause-faulted
+returns-then-len-most_jobs-clause-faulted g c = λ t o has. has
+
+pub returns-clause-faulted : goal.returns-clause-faulted
+returns-clause-faulted g c = λ t o has. c.put_held.ensures.faulted t o has

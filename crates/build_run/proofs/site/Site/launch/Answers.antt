@@ -12,6 +12,9 @@ use Rattle.build_run.proofs.Sites.{joined_after, site_goes, sound_refused, sound
 use Rattle.build_run.specs.Output.{nothing}
 use Rattle.build_run.proofs.StartPrinting.{last_cut, last_whole}
 use Rattle.build_run.proofs.Reporting.{cleared_told, same_told}
+use Rattle.build_run.proofs.Faulted.{plain_exit, plain_print, plain_starts}
+use Rattle.build_run.specs.Faulted.{EndsAtStart}
+use Rattle.rule_graph.specs.Graphs.{RuleGraph}
 use Rattle.build_run.proofs.site.Site.launch.Goals as goal
 
 pub begin-requires-clause-apart : goal.begin-requires-clause-apart
@@ -177,3 +180,31 @@ returns-in_err-show-clause-want g c = λ ample. c.clear.ensures.texts.memory (c.
 
 pub returns-clause-want : goal.returns-clause-want
 returns-clause-want g c = λ ample. c.clear.ensures.texts.memory (c.show.ensures.texts.memory ample)
+
+pub returns-in_err-clear-clause-told : goal.returns-in_err-clear-clause-told
+returns-in_err-clear-clause-told g c = c.clear.ensures.texts
+
+pub returns-in_err-show-clause-told : goal.returns-in_err-show-clause-told
+returns-in_err-show-clause-told g c =
+    let first = c.clear.ensures.texts in
+    let then = c.show.ensures.texts in
+    record { faults = then.faults ∙ first.faults; shut = then.shut ∙ first.shut; memory = λ ample. first.memory (then.memory ample) }
+
+pub returns-clause-told : goal.returns-clause-told
+returns-clause-told g c =
+    let first = c.clear.ensures.texts in
+    let then = c.show.ensures.texts in
+    record { faults = then.faults ∙ first.faults; shut = then.shut ∙ first.shut; memory = λ ample. first.memory (then.memory ample) }
+
+pub returns-in_err-clear-clause-faulted : goal.returns-in_err-clear-clause-faulted
+returns-in_err-clear-clause-faulted g c =
+    plain_starts c.args.self.now.graph.now c.args.job.id c.from_residual.result (plain_exit c.from_residual.result _ c.from_residual.ensures.1 c.in_err-clear.ensures.plain)
+
+pub returns-in_err-show-clause-faulted : goal.returns-in_err-show-clause-faulted
+returns-in_err-show-clause-faulted g c =
+    let r = c.from_residual-in_err-show in
+    plain_starts c.args.self.now.graph.now c.args.job.id r.result (plain_exit r.result _ r.ensures.1 (plain_print _ _ _ c.in_err-show.ensures.cause))
+
+pub returns-clause-faulted : goal.returns-clause-faulted
+returns-clause-faulted g c =
+    subst (λ (of : RuleGraph). EndsAtStart of c.args.job.id c.begin.result) c.clear.ensures.known.graph c.begin.ensures.faulted

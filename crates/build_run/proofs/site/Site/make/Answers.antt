@@ -26,6 +26,7 @@ use Rattle.build_run.proofs.Printing.{end_printed, quiet_looked, quiet_make, qui
 use Rattle.build_run.proofs.Choosing.{targets_idle}
 use Rattle.build_run.proofs.Reporting.{same_told}
 use Rattle.build_run.proofs.Endings.{counts_looked, counts_on, counts_still}
+use Rattle.build_run.proofs.Faulted.{leads_exit, leads_plainly, plain_exit, plain_look, since_kept, since_log}
 use Rattle.build_run.proofs.site.Site.make.Goals as goal
 
 pub returns-in_err-is_stale-clause-ends : goal.returns-in_err-is_stale-clause-ends
@@ -378,3 +379,75 @@ returns-clause-counts g c =
     (counts_on m site.world.now site.account.now world site.account.now now.world.now now.account.now c.start.ensures.passes.passes.told.told
     (counts_looked m site.world.now site.account.now world site.account.now (λ ample. ample) stays.goes.passes.later looks) c.start.ensures.counts)
     (counts_still m now.world.now now.account.now c.note_start.new.self c.note_start.ensures.same.memory)
+
+pub returns-in_err-is_stale-clause-faulted : goal.returns-in_err-is_stale-clause-faulted
+returns-in_err-is_stale-clause-faulted g c = λ tells sure o outset along due has.
+    let m = g.W.Disk.meaning in
+    let site = c.args.self.now in
+    let r = c.from_residual in
+    leads_plainly o site.graph.now site.account.now _ r.result (plain_exit r.result _ r.ensures.1 (plain_look _ _ _ c.in_err-is_stale.ensures.cause))
+    (since_log o site.graph.now (m.around site.world.now).log _ site.account.now (c.is_stale.ensures.looks.around tells).log has)
+
+pub returns-then-not-branch-clause-faulted : goal.returns-then-not-branch-clause-faulted
+returns-then-not-branch-clause-faulted g c = λ tells sure o outset along due has.
+    let m = g.W.Disk.meaning in
+    let site = c.args.self.now in
+    since_log o site.graph.now (m.around site.world.now).log _ site.account.now (c.is_stale.ensures.looks.around tells).log has
+
+pub returns-in_err-why-clause-faulted : goal.returns-in_err-why-clause-faulted
+returns-in_err-why-clause-faulted g c = λ tells sure o outset along due has.
+    let m = g.W.Disk.meaning in
+    let site = c.args.self.now in
+    let r = c.from_residual-in_err-why in
+    let looks = looks_joined m _ _ _ c.is_stale.ensures.looks c.why_text.ensures.looks in
+    leads_plainly o site.graph.now site.account.now _ r.result (plain_exit r.result _ r.ensures.1 (plain_look _ _ _ c.in_err-why.ensures.cause))
+    (since_log o site.graph.now (m.around site.world.now).log _ site.account.now (looks.around tells).log has)
+
+pub returns-in_err-start-clause-faulted : goal.returns-in_err-start-clause-faulted
+returns-in_err-start-clause-faulted g c = λ tells sure o outset along due has.
+    let m = g.W.Disk.meaning in
+    let site = c.args.self.now in
+    let r = c.from_residual-in_err-start in
+    let looks = looks_joined m _ _ _ c.is_stale.ensures.looks c.why_text.ensures.looks in
+    let before = c.start.ensures.passes.passes.told.told tells in
+    let asks = looks.around before in
+    let is = found_now m o outset site along c.args.rule c.args.now due c.why_text.new.world asks c.requires.sound g.met.W.Disk.reads_as
+    (looks.told.told before) c.in_ok-is_stale.field-0 (c.in_ok-is_stale.ensures.due (c.why_text.ensures.looks.told.told before)) in
+    leads_exit o c.start.new.self.graph.now c.start.new.self.account.now _ r.result _ r.ensures.1
+    (c.in_err-start.ensures.faulted tells sure o outset
+    (along_looked m o outset site _ along asks refl refl refl refl refl (c.in_ok-why.ensures.cause ∙ c.in_ok-is_stale.ensures.cause)
+    (λ is. asked (begun_at o) site.graph.now site.run.now.inputs (m.around site.world.now) (m.around c.why_text.new.world) asks is) refl (λ is. is) (marks_here site.graph.now site.run.now.inputs))
+    (record {
+      room = due.room;
+      own = due.own;
+      model = due.model;
+      weighed = weighed_now m o outset site along c.args.rule c.args.now due c.why_text.new.world asks;
+    })
+    (sym is ∙ c.if-not-branch.false)
+    (since_log o site.graph.now (m.around site.world.now).log _ site.account.now asks.log has))
+
+pub returns-clause-faulted : goal.returns-clause-faulted
+returns-clause-faulted g c = λ tells sure o outset along due has.
+    let m = g.W.Disk.meaning in
+    let site = c.args.self.now in
+    let now = c.start.new.self in
+    let looks = looks_joined m _ _ _ c.is_stale.ensures.looks c.why_text.ensures.looks in
+    let before = c.start.ensures.passes.passes.told.told tells in
+    let asks = looks.around before in
+    let is = found_now m o outset site along c.args.rule c.args.now due c.why_text.new.world asks c.requires.sound g.met.W.Disk.reads_as
+    (looks.told.told before) c.in_ok-is_stale.field-0 (c.in_ok-is_stale.ensures.due (c.why_text.ensures.looks.told.told before)) in
+    let noted = c.note_start.new.self in
+    since_kept o now.graph.now (m.around now.world.now).log now.account.now noted c.note_start.ensures.same.memory
+    (λ e. goes_before now.account.now noted c.note_start.ensures.ends e)
+    (c.in_ok-start.ensures.faulted tells sure o outset
+    (along_looked m o outset site _ along asks refl refl refl refl refl (c.in_ok-why.ensures.cause ∙ c.in_ok-is_stale.ensures.cause)
+    (λ is. asked (begun_at o) site.graph.now site.run.now.inputs (m.around site.world.now) (m.around c.why_text.new.world) asks is) refl (λ is. is) (marks_here site.graph.now site.run.now.inputs))
+    (record {
+      room = due.room;
+      own = due.own;
+      model = due.model;
+      weighed = weighed_now m o outset site along c.args.rule c.args.now due c.why_text.new.world asks;
+    })
+    (sym is ∙ c.if-not-branch.false)
+    (since_log o site.graph.now (m.around site.world.now).log _ site.account.now asks.log has))
+    c.note_start.ensures.same.faults

@@ -16,6 +16,10 @@ use Rattle.build_run.proofs.Causing.{disk_fault}
 use Rattle.build_run.proofs.Goings.{goes_here}
 use Rattle.build_run.proofs.Outs.{held_outs, outs_front, stored_put, stored_shut}
 use Rattle.build_run.proofs.Sites.{goes_by, later_disk, later_same}
+use Rattle.build_run.proofs.Faulted.{kept_faulted, plain_faulted}
+use Rattle.rule_graph.specs.declared.build_fault.BuildFault.TheVariants as fault
+use Rattle.world_api.specs.Around.{Around}
+use Rattle.build_model.proofs.Lists.{true_false}
 use Rattle.build_run.proofs.site.Site.put_held.Goals as goal
 
 pub put-requires-clause-live : goal.put-requires-clause-live
@@ -132,3 +136,19 @@ returns-in-Err-clause-safe g c =
     (λ k tickets was. put_safe k (m.around site.world.now) store held (map_of store) (tickets.held c.if-self.false) was)
     (λ k goes tells sure tickets watched. put_watched k (m.around site.world.now) store held (map_of store) (tickets.held c.if-self.false) watched)
     c.put.ensures.tickets (none_fewer held _ c.clear-in-Err.ensures) refl (λ unshut. absurd (false≢true (sym unshut ∙ c.end.ensures.reports.shut))))
+
+pub returns-then-self-clause-faulted : goal.returns-then-self-clause-faulted
+returns-then-self-clause-faulted g c = λ t o has. has
+
+pub returns-in-Ok-clause-faulted : goal.returns-in-Ok-clause-faulted
+returns-in-Ok-clause-faulted g c =
+    let site = c.args.self.now in
+    kept_faulted g.W.Disk.meaning site.graph.now site.world.now c.put.new.world site.account.now site.account.now
+    (λ t. ap (λ (a : Around). a.log) (c.put.ensures.around t)) (λ ample. ample) (λ e. e) refl
+
+pub returns-in-Err-clause-faulted : goal.returns-in-Err-clause-faulted
+returns-in-Err-clause-faulted g c =
+    let site = c.args.self.now in
+    plain_faulted g.W.Disk.meaning site.graph.now site.world.now c.put.new.world site.account.now c.end.new.self
+    (λ t. ap (λ (a : Around). a.log) (c.put.ensures.around t)) c.end.ensures.want (λ e. true_false (sym c.end.ensures.ends.ended ∙ e)) fault.StoreFault tt
+    c.end.ensures.lists

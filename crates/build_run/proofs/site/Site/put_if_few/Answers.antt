@@ -31,3 +31,9 @@ returns-clause-sound g c =
 pub returns-then-len-most_jobs-clause-safe : goal.returns-then-len-most_jobs-clause-safe
 returns-then-len-most_jobs-clause-safe g c =
     site_rests g.W.Disk.meaning g.met.W.Disk.only_now c.args.self.now _ refl refl refl refl (λ unshut. unshut)
+
+pub returns-then-len-most_jobs-clause-faulted : goal.returns-then-len-most_jobs-clause-faulted
+returns-then-len-most_jobs-clause-faulted g c = λ t o has. has
+
+pub returns-clause-faulted : goal.returns-clause-faulted
+returns-clause-faulted g c = λ t o has. c.put_held.ensures.faulted t o has

@@ -10,6 +10,7 @@ use Rattle.build_run.proofs.Sites.{looked_at, sound_still}
 use Rattle.build_run.proofs.Starting.{end_of_turn}
 use Rattle.build_run.proofs.Printing.{quiet_looked}
 use Rattle.build_run.proofs.Endings.{counts_looked}
+use Rattle.build_run.proofs.Faulted.{leads_plainly, plain_exit, plain_look, since_grown, since_log}
 use Rattle.build_run.proofs.site.Site.scan.Goals as goal
 
 pub returns-in_err-found-clause-noted : goal.returns-in_err-found-clause-noted
@@ -98,3 +99,19 @@ returns-clause-counts g c =
     let m = g.W.Disk.meaning in
     let stays = looked_at m _ _ c.scanned.result c.scanned.ensures.looks c.scanned.ensures.cause in
     counts_looked m _ _ _ _ (λ ample. ample) stays.goes.passes.later c.scanned.ensures.looks
+
+pub returns-in_err-found-clause-faulted : goal.returns-in_err-found-clause-faulted
+returns-in_err-found-clause-faulted g c = λ tells sure o outset along wanted has.
+    let m = g.W.Disk.meaning in
+    let site = c.args.self.now in
+    let r = c.from_residual in
+    leads_plainly o c.scanned.new.graph site.account.now _ r.result (plain_exit r.result _ r.ensures.1 (plain_look _ _ _ c.in_err-found.ensures.cause))
+    (since_log o c.scanned.new.graph (m.around site.world.now).log _ site.account.now (c.scanned.ensures.looks.around tells).log
+    (since_grown o site.graph.now (m.around site.world.now).log c.scanned.new.graph site.account.now c.scanned.ensures.grows has))
+
+pub returns-clause-faulted : goal.returns-clause-faulted
+returns-clause-faulted g c = λ tells sure o outset along wanted has.
+    let m = g.W.Disk.meaning in
+    let site = c.args.self.now in
+    since_log o c.scanned.new.graph (m.around site.world.now).log _ site.account.now (c.scanned.ensures.looks.around tells).log
+    (since_grown o site.graph.now (m.around site.world.now).log c.scanned.new.graph site.account.now c.scanned.ensures.grows has)

@@ -6,7 +6,7 @@ use Rattle.build_run.proofs.Stopping.{site_rests, site_then}
 use Rattle.build_run.specs.Holds.{hold_of}
 use Rattle.build_run.specs.Safe.{AreSafeIn, HasOwnRecord}
 use Rattle.build_run.specs.Watches.{MayGo}
-use Rattle.std.proofs.Common.{◌∙◌, ◌++◌, ◌∷◌, ℕ, List, [], Contains, inl, inr, ap, append_assoc, arith, length, length-append, refl, subst, sym}
+use Rattle.std.proofs.Common.{◌≡◌, ◌∙◌, ◌++◌, ◌∷◌, ℕ, List, [], Contains, inl, inr, ap, append_assoc, arith, length, length-append, refl, subst, sym}
 use Rattle.std.proofs.lemmas.List.{map-append}
 use Rattle.sign_store.specs.Tables.{Map}
 use Rattle.world_api.specs.Printing.{Prints}
@@ -30,6 +30,15 @@ use Rattle.build_run.specs.Output.{PrintsLast}
 use Rattle.build_run.proofs.Printing.{end_printed}
 use Rattle.build_run.proofs.StartPrinting.{last_told, refused_printed, started_printed}
 use Rattle.build_run.proofs.Endings.{counts_cleared, counts_launched, counts_still}
+use Rattle.build_run.proofs.Faulted.{faulted_started, leads_plainly, plain_end, plain_exit, plain_inside, plain_within, since_entry, since_kept, since_log, start_end}
+use Rattle.build_run.specs.Faulted.{IsFaultedAt, IsUnstarted}
+use Rattle.build_run.proofs.Unstarted.{job_first, none_started}
+use Rattle.build_run.proofs.Unmade.{since_same}
+use Rattle.rule_graph.specs.Graphs.{RuleGraph}
+use Rattle.rule_graph.specs.declared.build_fault.BuildFault.TheVariants as fault
+use Rattle.build_files.specs.Firsts.{first_target_of}
+use Rattle.build_files.specs.declared.end.ListEnd.TheVariants as list_end
+use Rattle.world_api.specs.Around.{Entry, Started}
 use Rattle.build_run.proofs.site.Site.start.Goals as goal
 
 pub returns-then-self-clause-ends : goal.returns-then-self-clause-ends
@@ -519,3 +528,69 @@ returns-clause-counts g c =
     let is = c.launch.ensures in
     counts_cleared g.W.Disk.meaning c.in_ok-job.job.targets site.world.now site.account.now now.world.now now.account.now is.want
     is.passes.passes.later c.in-Err.ensures.clears
+
+pub returns-then-self-clause-faulted : goal.returns-then-self-clause-faulted
+returns-then-self-clause-faulted g c = λ tells sure o outset along due is_due has.
+    let site = c.args.self.now in
+    (has, plain_end o site.graph.now (g.W.Disk.meaning.around site.world.now).log site.account.now (list_end.Fault fault.StoreFault) has tt)
+
+pub returns-then-not-are_apart-clause-faulted : goal.returns-then-not-are_apart-clause-faulted
+returns-then-not-are_apart-clause-faulted g c = λ tells sure o outset along due is_due has. (has, tt)
+
+pub returns-then-not-make_none_of-clause-faulted : goal.returns-then-not-make_none_of-clause-faulted
+returns-then-not-make_none_of-clause-faulted g c = λ tells sure o outset along due is_due has. (has, tt)
+
+pub returns-in_err-text-clause-faulted : goal.returns-in_err-text-clause-faulted
+returns-in_err-text-clause-faulted g c = λ tells sure o outset along due is_due has.
+    let r = c.from_residual in
+    leads_plainly o c.args.self.now.graph.now c.args.self.now.account.now _ r.result (plain_within r.result r.ensures.1) has
+
+pub returns-in_err-job-clause-faulted : goal.returns-in_err-job-clause-faulted
+returns-in_err-job-clause-faulted g c = λ tells sure o outset along due is_due has.
+    let r = c.from_residual-in_err-job in
+    leads_plainly o c.args.self.now.graph.now c.args.self.now.account.now _ r.result (plain_within r.result r.ensures.1) has
+
+pub returns-in_err-hold-clause-faulted : goal.returns-in_err-hold-clause-faulted
+returns-in_err-hold-clause-faulted g c = λ tells sure o outset along due is_due has.
+    let r = c.from_residual-in_err-hold in
+    leads_plainly o c.args.self.now.graph.now c.args.self.now.account.now _ r.result (plain_within r.result r.ensures.1) has
+
+pub returns-in_err-ticket-clause-faulted : goal.returns-in_err-ticket-clause-faulted
+returns-in_err-ticket-clause-faulted g c = λ tells sure o outset along due is_due has.
+    let r = c.from_residual-in_err-ticket in
+    leads_plainly o c.args.self.now.graph.now c.args.self.now.account.now _ r.result (plain_exit r.result _ r.ensures.1 (plain_inside _ c.in_err-ticket.ensures.quiet)) has
+
+pub returns-in-Ok-clause-faulted : goal.returns-in-Ok-clause-faulted
+returns-in-Ok-clause-faulted g c = λ tells sure o outset along due is_due has.
+    let m = g.W.Disk.meaning in
+    let site = c.args.self.now in
+    let now = c.launch.new.self in
+    let is = c.launch.ensures in
+    let job = c.in_ok-job.job in
+    let launch = c.in-Ok.ensures.starts tells in
+    subst (λ (of : RuleGraph). IsFaultedAt o of now.account.now (m.around now.world.now).log) (sym is.known.graph)
+    (since_entry o site.graph.now (m.around site.world.now).log (m.around now.world.now).log site.account.now now.account.now
+    (Started job (m.counts site.world.now))
+    (launch.starts.log ∙ ap (λ (l : List Entry). l ++ Started job (m.counts site.world.now) ∷ []) launch.clears.log)
+    (λ entries are. faulted_started o site.graph.now entries site.account.now now.account.now is.told.memory (λ e. sym is.account.ended ∙ e) are job
+    (m.counts site.world.now) due.weighed.goes_on is.told.faults (job_first m o outset site along c.args.rule c.args.now due job c.in_ok-job.ensures)) has)
+
+pub returns-clause-faulted : goal.returns-clause-faulted
+returns-clause-faulted g c = λ tells sure o outset along due is_due has.
+    let m = g.W.Disk.meaning in
+    let site = c.args.self.now in
+    let now = c.launch.new.self in
+    let is = c.launch.ensures in
+    let job = c.in_ok-job.job in
+    let before = (m.around site.world.now).log in
+    let after = (m.around now.world.now).log in
+    let same : after ≡ before = (c.in-Err.ensures.clears tells).log in
+    let room = room_in m o site c.requires.sound.joined (is.passes.passes.told.told tells) along.asked due.room in
+    let kept = since_log o site.graph.now before after now.account.now same
+    (since_kept o site.graph.now before site.account.now now.account.now is.told.memory (λ e. sym is.account.ended ∙ e) has is.told.faults) in (
+      subst (λ (of : RuleGraph). IsFaultedAt o of now.account.now after) (sym is.known.graph) kept,
+      start_end o site.graph.now after now.account.now site.graph.now job.id _ kept c.in-Err.ensures.faulted
+          (λ target named. since_same o.before.log before after (λ entries. IsUnstarted o entries target) same
+          (none_started m o outset site along c.args.rule c.args.now due is_due room target
+          (ap (λ id. first_target_of site.graph.now id) (sym c.in_ok-job.ensures.id) ∙ named))),
+    )

@@ -28,6 +28,9 @@ use Rattle.build_run.proofs.Choosing.{goes_before}
 use Rattle.build_run.proofs.Printing.{ends_same, put_ended, quiet_ended}
 use Rattle.build_run.proofs.Reporting.{same_told}
 use Rattle.build_run.proofs.Endings.{counts_ended, counts_none, counts_on, not_wanted}
+use Rattle.build_run.proofs.Faulted.{faulted_done, faulted_ended, faulted_lost, since_entry}
+use Rattle.build_run.specs.Faulted.{AddsOutcome}
+use Rattle.std.proofs.Common.{ℕ}
 use Rattle.build_run.proofs.site.Site.take_ended.Goals as goal
 
 pub returns-in_default-clause-passes : goal.returns-in_default-clause-passes
@@ -382,3 +385,35 @@ returns-in_default-outcome-clause-counts g c =
     let is = c.wait-ended.ensures in
     let ended = c.wait-ended.result in
     counts_ended g.W.Disk.meaning _ _ _ _ ended.id ended.outcome c.not_done.ensures.want is.passes.later is.cause c.not_done.ensures.wants is.log
+
+pub returns-in_default-clause-faulted : goal.returns-in_default-clause-faulted
+returns-in_default-clause-faulted g c = λ t o has.
+    let site = c.args.self.now in
+    let ended = c.wait-ended.result in
+    let want = c.want_memory.ensures in
+    since_entry o site.graph.now (g.W.Disk.meaning.around site.world.now).log _ site.account.now c.want_memory.new.self (Finished ended.id ended.outcome)
+    (c.wait-ended.ensures.log t)
+    (λ entries are. faulted_lost o site.graph.now entries site.account.now c.want_memory.new.self want.same.memory
+    (λ e. true_false (sym want.ends.ended ∙ e)) are ended.id ended.outcome want.memory want.same.faults) has
+
+pub returns-in-Done-clause-faulted : goal.returns-in-Done-clause-faulted
+returns-in-Done-clause-faulted g c = λ t o has.
+    let site = c.args.self.now in
+    let ended = c.wait-ended.result in
+    let told = c.hold.ensures.puts.goes.passes.told.told t in
+    c.hold.ensures.faulted t o
+    (since_entry o site.graph.now (g.W.Disk.meaning.around site.world.now).log _ site.account.now site.account.now (Finished ended.id ended.outcome)
+    (c.wait-ended.ensures.log told)
+    (λ entries are. faulted_done o site.graph.now entries site.account.now site.account.now (λ ample. ample) (λ e. e) are ended.id ended.outcome c.in-Done.is refl)
+    has)
+
+pub returns-in_default-outcome-clause-faulted : goal.returns-in_default-outcome-clause-faulted
+returns-in_default-outcome-clause-faulted g c = λ t o has.
+    let site = c.args.self.now in
+    let ended = c.wait-ended.result in
+    let new = c.not_done.new.account in
+    let is = c.not_done.ensures in
+    since_entry o site.graph.now (g.W.Disk.meaning.around site.world.now).log _ site.account.now new (Finished ended.id ended.outcome) (c.wait-ended.ensures.log t)
+    (λ entries are. faulted_ended o site.graph.now entries site.account.now new is.want (λ e. goes_before site.account.now new is.ends e) are ended.id ended.outcome
+    (λ e. (is.goes e).1)
+    (subst (λ (id : ℕ). AddsOutcome site.graph.now id ended.outcome site.account.now new) c.in-Some.ensures.rule is.lists)) has

@@ -96,3 +96,8 @@ returns-clause-counts g c =
     let ended = c.take_ended.ensures in
     site_counts_on m c.args.self.now c.put_if_few.new.self c.take_ended.new.self ended.passes.passes.told.told
     (site_counts_put m c.args.self.now c.put_if_few.new.self put.puts put.want) ended.counts
+
+pub returns-clause-faulted : goal.returns-clause-faulted
+returns-clause-faulted g c = λ t o has.
+    let told = c.take_ended.ensures.passes.passes.told.told t in
+    c.take_ended.ensures.faulted t o (c.put_if_few.ensures.faulted told o has)

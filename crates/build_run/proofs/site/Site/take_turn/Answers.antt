@@ -5,6 +5,7 @@ use Rattle.build_run.proofs.Stopping.{site_rests}
 use Rattle.build_run.specs.Output.{TurnsPrinting}
 use Rattle.build_run.proofs.Printing.{quiet_around, quiet_turn}
 use Rattle.build_run.proofs.Endings.{counts_still}
+use Rattle.build_run.specs.Faulted.{TurnsFaulted}
 use Rattle.build_run.proofs.site.Site.take_turn.Goals as goal
 
 pub returns-in-Scan-clause-safe : goal.returns-in-Scan-clause-safe
@@ -43,3 +44,18 @@ pub returns-in-Rest-clause-counts : goal.returns-in-Rest-clause-counts
 returns-in-Rest-clause-counts g c =
     let site = c.args.self.now in
     counts_still g.W.Disk.meaning site.world.now site.account.now site.account.now (λ ample. ample)
+
+pub returns-in-Scan-clause-faulted : goal.returns-in-Scan-clause-faulted
+returns-in-Scan-clause-faulted g c =
+    subst (λ (wanted : Want). TurnsFaulted g.W.Disk.meaning c.args.self.now c.scan.new.self wanted c.scan.result) (sym c.in-Scan.is) c.scan.ensures.faulted
+
+pub returns-in-Decide-clause-faulted : goal.returns-in-Decide-clause-faulted
+returns-in-Decide-clause-faulted g c =
+    subst (λ (wanted : Want). TurnsFaulted g.W.Disk.meaning c.args.self.now c.decide.new.self wanted c.decide.result) (sym c.in-Decide.is)
+    c.decide.ensures.faulted
+
+pub returns-in-Wait-clause-faulted : goal.returns-in-Wait-clause-faulted
+returns-in-Wait-clause-faulted g c = λ tells sure o outset along wanted has. c.take_ending.ensures.faulted tells o has
+
+pub returns-in-Rest-clause-faulted : goal.returns-in-Rest-clause-faulted
+returns-in-Rest-clause-faulted g c = λ tells sure o outset along wanted has. has

@@ -8,6 +8,7 @@ use Rattle.build_run.specs.Ledgers.{ledger_of}
 use Rattle.build_run.proofs.Causing.{wanted}
 use Rattle.build_run.proofs.Sites.{site_on}
 use Rattle.build_run.proofs.Endings.{counts_still, site_counts_on, site_counts_tell}
+use Rattle.build_run.proofs.Faulted.{turns_faulted, wants_faulted}
 use Rattle.build_run.proofs.site.Site.take_turns.Goals as goal
 
 pub loop-turn-preserved : goal.loop-turn-preserved
@@ -30,6 +31,8 @@ loop-turn-preserved g c =
       counts = site_counts_on m c.args.self.now c.take_turn-done.new.self c.tell.new.self tell.passes.passes.told.told
           (site_counts_on m c.args.self.now c.loop-turn.self c.take_turn-done.new.self turn.passes.passes.told.told before.counts turn.counts)
           (site_counts_tell m c.take_turn-done.new.self c.tell.new.self tell.still tell.want);
+      faulted = turns_faulted m c.args.self.now c.loop-turn.self c.take_turn-done.new.self c.tell.new.self _ _ tell.passes.passes.told turn.passes.passes.told (c.want-wanted.ensures.wanted (search rules)) before.along before.faulted
+          turn.faulted tell.faulted;
       safe = turns_on m _ _ _ before.passes.passes.told told.passes.told before.along before.safe
           (turn_then m _ _ _ tell.passes.passes.told (turn.safe (c.want-wanted.ensures.wanted (search rules))) tell.safe);
       printing = prints_on m g.O.Sink.meaning _ _ _ told.passes.told before.along before.printing
@@ -65,6 +68,7 @@ loop-turn-init g c = record {
   texts = λ start has. has;
   counts = counts_still g.W.Disk.meaning c.args.self.now.world.now c.args.self.now.account.now c.args.self.now.account.now (λ ample. ample);
   noting = λ n. n;
+  faulted = λ tells sure o outset along has. has;
 }
 
 pub returns-clause-noting : goal.returns-clause-noting
@@ -94,3 +98,8 @@ returns-clause-counts g c =
     let last = c.tell-2.ensures in
     site_counts_on m c.args.self.now c.loop-turn.self c.tell-2.new.self last.passes.passes.told.told c.loop-turn.invariant.counts
     (site_counts_tell m c.loop-turn.self c.tell-2.new.self last.still last.want)
+
+pub returns-clause-faulted : goal.returns-clause-faulted
+returns-clause-faulted g c =
+    wants_faulted g.W.Disk.meaning c.args.self.now c.loop-turn.self c.tell-2.new.self c.tell-2.ensures.passes.passes.told c.loop-turn.invariant.faulted
+    c.tell-2.ensures.faulted

@@ -1,6 +1,7 @@
 use Rattle.build_run.specs.Along.{StaysAlong}
 use Rattle.build_run.specs.Endings.{SiteCounts}
 use Rattle.build_run.specs.FaultTexts.{SiteKeepsTold}
+use Rattle.build_run.specs.Faulted.{GoesFaulted}
 use Rattle.build_run.specs.Output.{PrintsAlong}
 use Rattle.build_run.specs.Noted.{SiteStaysNoting}
 use Rattle.build_run.specs.Reasons.{SiteKeepsReason}
@@ -22,4 +23,5 @@ invariant-loop-turn g l =
       texts : SiteKeepsTold g.E.Sink.meaning l.fn.self l.self;
       noting : SiteStaysNoting l.fn.self l.self;
       counts : SiteCounts m l.fn.self l.self;
+      faulted : GoesFaulted m l.fn.self l.self;
     }

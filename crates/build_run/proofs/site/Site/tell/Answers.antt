@@ -5,6 +5,7 @@ use Rattle.build_run.proofs.Stopping.{site_rests}
 use Rattle.build_run.proofs.Alongs.{told_to}
 use Rattle.build_run.proofs.Booking.{shut_on}
 use Rattle.build_run.proofs.Printing.{quiet_around, tells_end, tells_ended}
+use Rattle.build_run.proofs.Faulted.{told_faulted}
 use Rattle.build_run.proofs.site.Site.tell.Goals as goal
 
 pub returns-clause-noting : goal.returns-clause-noting
@@ -37,3 +38,12 @@ pub returns-clause-ends : goal.returns-clause-ends
 returns-clause-ends g c =
     let site = c.args.self.now in
     tells_end site.graph.now site.run.now.plan c.tell.new.plan c.args.done site.account.now c.tell.new.account c.tell.ensures.tells
+
+pub returns-clause-faulted : goal.returns-clause-faulted
+returns-clause-faulted g c = λ o leads.
+    let site = c.args.self.now in
+    let tells = c.tell.ensures.tells in
+    told_faulted o site.graph.now site.account.now (g.W.Disk.meaning.around site.world.now).log c.args.done c.tell.new.account c.tell.ensures.want
+    (λ e. tells_ended site.graph.now site.run.now.plan c.tell.new.plan c.args.done site.account.now c.tell.new.account tells e)
+    (tells_end site.graph.now site.run.now.plan c.tell.new.plan c.args.done site.account.now c.tell.new.account tells)
+    c.tell.ensures.lists leads

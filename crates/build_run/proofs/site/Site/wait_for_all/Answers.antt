@@ -32,6 +32,9 @@ loop-turn-preserved g c =
       counts = site_counts_on m c.args.self.now c.take_ending-event.new.self c.tell.new.self tell.passes.passes.told.told
           (site_counts_on m c.args.self.now c.loop-turn.self c.take_ending-event.new.self ending.passes.passes.told.told before.counts ending.counts)
           (site_counts_tell m c.take_ending-event.new.self c.tell.new.self tell.still tell.want);
+      faulted = λ t o has.
+          let mid = tell.passes.passes.told.told t in
+          tell.faulted o (ending.faulted mid o (before.faulted (ending.passes.passes.told.told mid) o has));
       safe = site_safely_on m _ _ _ tell.passes.passes.told (site_safely_on m _ _ _ ending.passes.passes.told before.safe ending.safe) tell.safe;
       quiet = quiet_on m _ _ _ tell.passes.passes.told (quiet_on m _ _ _ ending.passes.passes.told before.quiet ending.quiet) tell.quiet;
       texts = λ start has. tell.texts start (ending.texts start (before.texts start has));
@@ -56,6 +59,7 @@ loop-turn-init g c = record {
   texts = λ start has. has;
   counts = counts_still g.W.Disk.meaning c.args.self.now.world.now c.args.self.now.account.now c.args.self.now.account.now (λ ample. ample);
   noting = λ n. n;
+  faulted = λ t o has. has;
   same = search rules;
   halted = search rules;
   along = search rules;

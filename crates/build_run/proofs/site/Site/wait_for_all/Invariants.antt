@@ -2,6 +2,7 @@ use Rattle.std.proofs.Common.{◌≡◌, ◌≤◌, ◌+◌, true, length}
 use Rattle.build_run.specs.Along.{StaysAlong}
 use Rattle.build_run.specs.Endings.{SiteCounts}
 use Rattle.build_run.specs.FaultTexts.{SiteKeepsTold}
+use Rattle.build_run.specs.Faulted.{SiteKeepsFaulted}
 use Rattle.build_run.specs.Output.{IsQuiet}
 use Rattle.build_run.specs.Noted.{SiteStaysNoting}
 use Rattle.build_run.specs.Reasons.{SiteKeepsReason}
@@ -23,6 +24,7 @@ invariant-loop-turn g l =
       texts : SiteKeepsTold g.E.Sink.meaning l.fn.self l.self;
       noting : SiteStaysNoting l.fn.self l.self;
       counts : SiteCounts m l.fn.self l.self;
+      faulted : SiteKeepsFaulted m l.fn.self l.self;
       same : l._turn ≡ 0 → l.self ≡ l.fn.self;
       halted : l.fn.self.run.now.plan.halted ≡ true → l.self.run.now.plan.halted ≡ true;
       along : l.fn.self.run.now.plan.halted ≡ true → StaysAlong m l.fn.self l.self;
