@@ -15,6 +15,9 @@ mod Opening
 mod Stopping
 mod Shown
 mod Asking
+mod Alone
+mod Refusing
+mod Completing
 mod Marking
 mod Printing
 mod Removing

@@ -1,11 +1,13 @@
 //! The steps of a run.
 ghost use Rattle.std.specs.Prelude.{◌≡◌, ◌≢◌, [], ℕ, Ok, Err, IfOk, IfErr, Contains, IsSome, IsTrue};
 ghost use Rattle.build_run.specs.Goings.{Passes};
+ghost use Rattle.scons_top.specs.Alone.{EndsAtOne};
 ghost use Rattle.scons_top.specs.Asked.{StopsUnknown, TellUnknown};
 ghost use Rattle.scons_top.specs.Builds.{Builds, RemembersAt, RunBuilds};
 ghost use Rattle.scons_top.specs.Causes.{RunCauses};
 ghost use Rattle.scons_top.specs.Cleaned.{Cleans, RunCleans};
-ghost use Rattle.scons_top.specs.Foreign.{RunByBytes, TellsBytes};
+ghost use Rattle.scons_top.specs.Complete.{RunCompletes};
+ghost use Rattle.scons_top.specs.Foreign.{OpensByBytes, RunByBytes, TellsBytes};
 ghost use Rattle.report_texts.specs.Texts.{help_text};
 ghost use Rattle.scons_top.specs.Printed.{ReportPrints, RunPrints, ServesPrinting, WordsPrint};
 ghost use Rattle.scons_top.specs.Sinks.{PrintsUpTo};
@@ -60,7 +62,9 @@ pub fn scons<W: World, O: Sink, E: Sink>(
     ensures comes { (said : Words) → read words.now ≡ Ok said → ComesTo said result.step }
     ensures leaves { LeavesAt W.meaning result.step world.old world.new }
     ensures faults { AllComeAt result.step result.faults }
+    ensures alone { EndsAtOne result.step result.faults }
     ensures bytes { W.meaning.tells world.new → TellsBytes (W.meaning.seen world.old) result.step result.faults }
+    ensures opens { W.meaning.tells world.new → OpensByBytes (W.meaning.seen world.old) result }
     ensures refused { (why : WordsFault) → read words.now ≡ Err why → RefusesWords why world.old world.new out.old out.new result }
     ensures usage { (place : ℕ) (kind : UsageKind) → Contains result.faults (Top.Usage place kind) → read words.now ≡ Err (At place kind) }
     ensures unknown { (said : Words) → read words.now ≡ Ok said → TellUnknown said result.faults }
@@ -75,6 +79,7 @@ pub fn scons<W: World, O: Sink, E: Sink>(
     ensures remembers { (said : Words) → read words.now ≡ Ok said → RemembersAt W.meaning said result.step world.old world.new result }
     ensures status { HasStatus result.status result.faults }
     ensures causes { RunCauses W.meaning O.meaning E.meaning world.old out.old err.old world.new out.new err.new result }
+    ensures completes { (said : Words) → read words.now ≡ Ok said → RunCompletes W.meaning O.meaning E.meaning world.old out.old err.old world.new out.new err.new result }
     ensures prints { ReportPrints W.meaning O.meaning words.now world.old out.old world.new out.new result }
     ensures tells { TellsFaults E.meaning err.old err.new result }
 {

@@ -1,6 +1,6 @@
 use Rattle.scons_top.proofs.Serving.{run_asked, run_help, run_read, run_served}
 use Rattle.scons_top.proofs.Telling.{none_told, stops_silent}
-use Rattle.scons_top.proofs.Opening.{reading_ends, help_ends, run_after, stops_unopened}
+use Rattle.scons_top.proofs.Opening.{reading_ends, help_ends, asked_unopened, run_after}
 use Rattle.scons_top.proofs.Clearing.{not_reading, cleans_after}
 use Rattle.scons_top.specs.declared.step.Step.TheVariants as step
 use Rattle.scons_top.proofs.Watching.{watches_on}
@@ -147,7 +147,7 @@ pub returns-in_err-requests-clause-bytes : goal.returns-in_err-requests-clause-b
 returns-in_err-requests-clause-bytes g c =
     let r = c.from_residual-in_err-requests in
     run_after g.W.Disk.meaning step.Requests c.args.world.now c.read.new.world c.requests_of.new.world r.result c.read.ensures.watches.looks c.requests_of.ensures.watches.looks.told.told
-    (λ t. stops_unopened _ step.Requests r.result _ r.ensures.1 (λ o. o) (c.in_err-requests.ensures.bytes t))
+    (λ t. asked_unopened _ r.result _ r.ensures.1 (c.in_err-requests.ensures.bytes t))
 
 pub returns-clause-bytes : goal.returns-clause-bytes
 returns-clause-bytes g c =
