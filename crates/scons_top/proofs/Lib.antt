@@ -16,6 +16,10 @@ mod Stopping
 mod Shown
 mod Asking
 mod Alone
+mod Orders
+mod Listed
+mod Grown
+mod Finding
 mod Refusing
 mod Completing
 mod Marking

@@ -1,4 +1,7 @@
 pub mod Alone
+pub mod Below
+pub mod Naming
+pub mod Finding
 pub mod Asked
 pub mod Remembered
 pub mod Builds
