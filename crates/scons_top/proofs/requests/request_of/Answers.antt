@@ -1,6 +1,6 @@
 use Rattle.scons_top.proofs.Opening.{bytes_memory, bytes_exit, bytes_list, bytes_after}
 use Rattle.scons_top.proofs.Asking.{asked_exit, asked_list, asked_memory, look_at, stops_weaker, ends_weaker, none_as, read_as, target_spelled, unknown_path, unknown_alias, unknown_at}
-use Rattle.scons_top.specs.Asked.{is_target, IsNoPath, IsUnknownAs, IsWordIn, NamesNone}
+use Rattle.scons_top.specs.Asked.{IsNoPath, IsUnknownAs, IsWordIn, NamesNone}
 use Rattle.scons_top.specs.Requested.{AreNodes}
 use Rattle.scons_base.specs.Resolve.{spelling}
 use Rattle.rule_graph.specs.Aliases.{members_of}
@@ -102,7 +102,7 @@ returns-clause-stops g c =
     let none : members_of old.aliases word ≡ None = search rules in
     let path = c.in-Some-2.path in
     let read = read_as word path _ c.in-Some-2.is c.in_ok-path.ensures in
-    let target : is_target old (spelling old.top word) ≡ false =
+    let target : is_made old (spelling old.top word) ≡ false =
     target_spelled old word _ path _ read c.top.ensures c.in_ok-path-2.ensures.path (c.in_ok-has_rule.ensures.none c.if-branch.false) in
     let unknown = unknown_path old word word refl none (λ path. target) in
     ends_weaker (IsWordIn old new word) (IsUnknownAs new word) c.file_request.result (λ other is. unknown_at old new word other unknown is) c.file_request.ensures.stops
