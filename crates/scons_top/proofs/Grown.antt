@@ -2,6 +2,7 @@
 use Rattle.std.proofs.Common.{◌≡◌, ◌∙◌, ◌≤◌, ◌<◌, ◌⊎◌, inl, inr, ap, sym, subst, refl, ℕ, suc, zero, Bool, true, false, List, [], ◌∷◌, ◌++◌, Option, Some, None, length, take, append-nil, append_assoc, map, arith}
 use Rattle.std.specs.Prelude.{◌&&◌, ◌||◌, not, is_some, nat_eq, nat_lt, slice_get, unwrap_or, All, MatchOption, if◌then◌else◌}
 use Rattle.std.specs.List.{flat_map, list_any, list_all}
+use Rattle.std.specs.List.Sorted.{IsPermutation}
 use Rattle.std.specs.Str.{bytes_eq}
 use Rattle.std.proofs.lemmas.Bool.{eqb-true, ltb-true}
 use Rattle.std.proofs.lemmas.List.Elements.{All-weaker}
@@ -23,7 +24,7 @@ use Rattle.build_means.specs.Rules.{IsReading}
 use Rattle.build_means.proofs.Growing.{get_front}
 use Rattle.build_means.proofs.Lists.{all_there, any_there, first_place, none_some, some_same}
 use Rattle.build_files.specs.Leftovers.{copied_from, declared_for, has_rule, is_before, is_copied, is_declared, is_made, is_source, source_among, stands, IsLeftover, IsOfCopy}
-use Rattle.scons_top.specs.Below.{has_below, targets_in, with_paths}
+use Rattle.scons_top.specs.Below.{has_below, targets_in, with_paths, AreListed}
 use Rattle.scons_top.specs.Naming.{HasGrown, IsFirstUnknown, IsLeftOver, IsThere, NamesNothing, NamesSome}
 use Rattle.scons_top.specs.Naming.IsThere.{made, copied, file, dir, above}
 use Rattle.scons_top.specs.Naming.NamesSome.{alias, path}
@@ -185,14 +186,26 @@ module _ (g : RuleGraph) (nodes more : List (List ℕ)) (is : nodes ≡ g.nodes 
       by_alias None none = λ is_one there. none is_one (there_on around map (spelling g.top word) there)
       by_alias (Some members) h = h
 
-module _ (g h : RuleGraph) (grown_to : HasGrown g h) (before : IsReading g) (after : IsReading h) (around : Around) (map : Map) (word : List ℕ) where
-  pub names_back : NamesSome h around map word → NamesSome g around map word
-  names_back names =
-      names_before g h.nodes grown_to.more grown_to.nodes before after.apart around map word (subst (λ (k : RuleGraph). NamesSome k around map word) grown_to.same names)
+module _ (g h : RuleGraph) (grown_to : HasGrown g h) (before : IsReading g) (apart : AreApart h.nodes) where
+  pub names_back : (around : Around) (map : Map) (word : List ℕ) → NamesSome h around map word → NamesSome g around map word
+  names_back around map word names =
+      names_before g h.nodes grown_to.more grown_to.nodes before apart around map word (subst (λ (k : RuleGraph). NamesSome k around map word) grown_to.same names)
 
-  pub nothing_back : NamesNothing h around map word → NamesNothing g around map word
-  nothing_back nothing =
-      nothing_before g h.nodes grown_to.more grown_to.nodes before after.apart around map word (subst (λ (k : RuleGraph). NamesNothing k around map word) grown_to.same nothing)
+  pub nothing_back : (around : Around) (map : Map) (word : List ℕ) → NamesNothing h around map word → NamesNothing g around map word
+  nothing_back around map word nothing =
+      nothing_before g h.nodes grown_to.more grown_to.nodes before apart around map word (subst (λ (k : RuleGraph). NamesNothing k around map word) grown_to.same nothing)
+
+  targets_same : targets_in h h.rules ≡ targets_in g g.rules
+  targets_same =
+      ap (λ (k : RuleGraph). targets_in k k.rules) grown_to.same
+      ∙ listed_same g h.nodes grown_to.more grown_to.nodes before apart g.rules (λ i r at. (before.named.each_rule i r at).targets)
+
+  pub listed_on : (targets : List (List ℕ × NodeId)) → AreListed g targets → AreListed h targets
+  listed_on targets listed =
+      record { all = subst (λ (all : List (List ℕ × NodeId)). IsPermutation all targets) (sym targets_same) listed.all; order = listed.order }
+
+  pub listed_back : (targets : List (List ℕ × NodeId)) → AreListed h targets → AreListed g targets
+  listed_back targets listed = record { all = subst (λ (all : List (List ℕ × NodeId)). IsPermutation all targets) targets_same listed.all; order = listed.order }
 
 pub grown_here : (g : RuleGraph) → HasGrown g g
 grown_here g = record { same = refl; more = []; nodes = sym (append-nil g.nodes) }

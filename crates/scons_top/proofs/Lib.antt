@@ -20,6 +20,7 @@ mod Orders
 mod Listed
 mod Grown
 mod Finding
+mod Wording
 mod Refusing
 mod Completing
 mod Marking

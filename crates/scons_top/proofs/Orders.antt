@@ -78,7 +78,7 @@ begins_between (b ∷ front) (x ∷ path) (y ∷ last) behind before is =
     let high = not_less y x (slice_cmp nat_cmp last path) before in
     let at : x ≡ b = omega (arith, first, low, high) in
     let rest = begins_between front path last (sym (rest_same x b (slice_cmp nat_cmp path front) at) ∙ behind)
-        (sym (rest_same y x (slice_cmp nat_cmp last path) (sym first ∙ sym at)) ∙ before) (second_of_both (nat_eq b y) (begins front last) is) in
+    (sym (rest_same y x (slice_cmp nat_cmp last path) (sym first ∙ sym at)) ∙ before) (second_of_both (nat_eq b y) (begins front last) is) in
     both (nat_eq b x) (begins front path) (eq-eqb b x (sym at)) rest
 
 -- ---- the paths below a directory
@@ -205,11 +205,11 @@ module _ (dir : List ℕ) (targets : List (List ℕ × NodeId)) (first : ℕ) (s
         let y = get_or targets j d in
         let by_path = ranks_by nat_list_cmp_total (λ (t : List ℕ × NodeId). t.0) in
         let far : goes_before y.0 x.0 ≡ false = subst (λ (z : List ℕ × NodeId). goes_before y.0 z.0 ≡ false) (sym (x_is d))
-            (sorted_far (λ (a b : List ℕ × NodeId). goes_before a.0 b.0) by_path targets order (first + i) j d le within) in
+        (sorted_far (λ (a b : List ℕ × NodeId). goes_before a.0 b.0) by_path targets order (first + i) j d le within) in
         let behind : goes_before x.0 (begins_below dir) ≡ false = subst (λ (z : List ℕ × NodeId). goes_before z.0 (begins_below dir) ≡ false) (sym (x_is d))
-            (starts.behind (first + i) d (omega arith) there) in
+        (starts.behind (first + i) d (omega arith) there) in
         unless (is_below y.0 dir) (λ is. absurd (false≢true (sym none ∙ begins_is_below dir x.0 at_top at_root
-            (begins_between (begins_below dir) x.0 y.0 behind far (below_begins dir y.0 is)))))
+        (begins_between (begins_below dir) x.0 y.0 behind far (below_begins dir y.0 is)))))
 
     rest_none : All (LiesNot dir) (drop i (drop first targets))
     rest_none k d within =

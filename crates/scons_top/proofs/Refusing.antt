@@ -6,7 +6,6 @@ use Rattle.world_api.specs.Banks.{Banks}
 use Rattle.world_api.specs.declared.disk.Bank.{Bank}
 use Rattle.rule_graph.specs.declared.build_fault.What.TheVariants as what
 use Rattle.sign_store.specs.Readings.{AreReadable, AreSmall, IsLarge, IsRefusal}
-use Rattle.sign_store.specs.declared.head.Choice.TheVariants as choice
 use Rattle.sign_store.specs.declared.refusals.StoreRefusal.{StoreRefusal}
 use Rattle.sign_store.specs.declared.refusals.StoreRefusal.TheVariants as refusal
 use Rattle.scons_top.specs.declared.report.Report.{Report}
@@ -28,8 +27,8 @@ not_large : (banks : Banks) (size : ℕ) → AreSmall banks → IsLarge banks si
 not_large banks size small (inl h) = let a = small.a in let is = h.0 in let over = h.1 in omega (arith, a, is, over)
 not_large banks size small (inr h) = let b = small.b in let is = h.1 in let over = h.2 in omega (arith, b, is, over)
 
-same_bank : (a b : Bank) → choice.Foreign a ≡ choice.Foreign b → a ≡ b
-same_bank a b same = cc
+same_bank : (banks : Banks) (a b : Bank) → IsRefusal banks (refusal.Foreign a) → IsRefusal banks (refusal.Foreign b) → a ≡ b
+same_bank banks a b h k = let one = h.1 in let other = k.1 in cc
 
 same_size : (banks : Banks) (n size : ℕ) → IsLarge banks n → IsLarge banks size → n ≡ size
 same_size banks n size (inl h) (inl k) = sym h.0 ∙ k.0
@@ -42,7 +41,7 @@ same_size banks n size (inr h) (inr k) = sym h.1 ∙ k.1
 tells_foreign : (banks : Banks) (faults : List Top) (why : StoreRefusal) (bank : Bank) → IsRefusal banks why → IsRefusal banks (refusal.Foreign bank) → IsTold (stop_of_store why) faults
     → Contains faults (top.StoreForeign bank) ⊎ Contains faults top.StoreFault
 tells_foreign banks faults refusal.Fault bank h f told = inr told
-tells_foreign banks faults (refusal.Foreign other) bank h f told = inl (subst (λ (b : Bank). Contains faults (top.StoreForeign b)) (same_bank other bank (sym h.1 ∙ f.1)) told)
+tells_foreign banks faults (refusal.Foreign other) bank h f told = inl (subst (λ (b : Bank). Contains faults (top.StoreForeign b)) (same_bank banks other bank h f) told)
 tells_foreign banks faults (refusal.Large size) bank h f told = absurd (not_large banks size f.0 h)
 tells_foreign banks faults refusal.Memory bank h f told = absurd told
 
@@ -82,8 +81,8 @@ opening_at banks at s is h = subst (λ (x : Step). StopsOpeningAt banks x s) is 
 -- a report comes only where the file was opened, or isn't to be
 module _ (banks : Banks) (at : Step) (report : Report) (is : report.step ≡ at) (h : EndsByBytes banks at (Ok report)) where
   ends_nowhere : {P : Type 0} → (AreReadable banks → ⊥) → (at ≡ step.Store) ⊎ IsOpened at → P
-  ends_nowhere no (inl store) = absurd (h.1 store)
-  ends_nowhere no (inr opened) = absurd (no (h.0.readable opened))
+  ends_nowhere never (inl store) = absurd (h.1 store)
+  ends_nowhere never (inr opened) = absurd (never (h.0.readable opened))
 
   pub report_opens : OpensByBytes banks report
   report_opens = record {

@@ -2,6 +2,9 @@ use Rattle.scons_top.proofs.Opening.{bytes_after, bytes_exit, bytes_memory}
 use Rattle.scons_top.proofs.Asking.{asked_exit, asked_memory, stops_weaker, unknown_of}
 use Rattle.scons_top.specs.Asked.{IsUnknownAs, IsUnknownOf}
 use Rattle.std.proofs.Common.{◌∙◌}
+use Rattle.build_means.specs.Rules.{IsReading}
+use Rattle.scons_top.proofs.Finding.{of_here, of_there, told_word, words_all, words_memory, words_more, words_stop}
+use Rattle.scons_top.proofs.Grown.{grown_on}
 use Rattle.scons_top.proofs.Requesting.{asks_pushed, words_pushed}
 use Rattle.scons_top.proofs.Watching.{watches_on}
 use Rattle.scons_top.proofs.Causing.{world_back, world_exit, world_memory}
@@ -14,12 +17,20 @@ pub returns-in_err-push-clause-watches : goal.returns-in_err-push-clause-watches
 returns-in_err-push-clause-watches g c = watches_on _ _ _ _ c.loop-word.invariant.watches c.request_of.ensures.watches
 
 pub loop-word-preserved : goal.loop-word-preserved
-loop-word-preserved g c = record {
+loop-word-preserved g c =
+  let reading : IsReading c.args.graph.now = record { apart = c.laws.ensures.apart; single = c.laws.ensures.single; named = c.laws.ensures.named } in
+  record {
   watches = watches_on _ _ _ _ c.loop-word.invariant.watches c.request_of.ensures.watches;
   same = c.in_ok-request_of.ensures.step ∙ c.loop-word.invariant.same;
   knows = c.request_of.ensures.knows c.loop-word.invariant.knows;
   nodes = asks_pushed c.loop-word.graph c.request_of.new.graph _ _ _ c.request_of.ensures.more c.in_ok-push.ensures.items c.loop-word.invariant.nodes
       (c.in_ok-request_of.ensures.nodes c.loop-word.invariant.knows);
+  grown = grown_on c.args.graph.now c.loop-word.graph c.request_of.new.graph c.loop-word.invariant.grown c.request_of.ensures.grown;
+  of = of_here g.W.Disk.meaning c.args.graph.now c.loop-word.graph c.loop-word.invariant.grown reading c.request_of.ensures.apart c.request_of.new.world c.request_of.new.lookups
+      (c.request_of.ensures.of (of_there g.W.Disk.meaning c.args.graph.now c.loop-word.graph c.loop-word.invariant.grown reading c.request_of.ensures.apart c.loop-word.world c.loop-word.lookups c.loop-word.invariant.of));
+  names = words_more g.W.Disk.meaning c.args.graph.now c.loop-word.graph c.loop-word.invariant.grown reading c.request_of.ensures.apart c.loop-word.world c.request_of.new.world
+      c.args.asked.now c.loop-word.word-index c.word-item.result c.request_of.ensures.watches.looks c.loop-word-test.true c.word-item.is c.loop-word.invariant.names
+      (c.in_ok-request_of.ensures.names (of_there g.W.Disk.meaning c.args.graph.now c.loop-word.graph c.loop-word.invariant.grown reading c.request_of.ensures.apart c.loop-word.world c.loop-word.lookups c.loop-word.invariant.of));
   words = words_pushed c.loop-word.requests.items _ _ c.args.asked.now c.loop-word.word-index c.word-item.result c.loop-word-test.true c.word-item.is
       c.in_ok-push.ensures.items c.in_ok-request_of.ensures.word c.loop-word.invariant.words;
 }
@@ -50,3 +61,22 @@ returns-in_err-request_of-clause-bytes g c =
 
 pub returns-in_err-push-clause-bytes : goal.returns-in_err-push-clause-bytes
 returns-in_err-push-clause-bytes g c = λ t. bytes_memory _ c.from_residual-in_err-push.result c.from_residual-in_err-push.ensures.1
+
+pub returns-in_err-request_of-clause-names : goal.returns-in_err-request_of-clause-names
+returns-in_err-request_of-clause-names g c =
+    let m = g.W.Disk.meaning in
+    let old = c.args.graph.now in
+    let graph = c.loop-word.graph in
+    let before = c.loop-word.invariant in
+    let apart = c.request_of.ensures.apart in
+    let reading : IsReading old = record { apart = c.laws.ensures.apart; single = c.laws.ensures.single; named = c.laws.ensures.named } in
+    words_stop m old graph before.grown reading apart c.loop-word.world c.request_of.new.world c.args.asked.now c.loop-word.word-index c.word-item.result
+    c.request_of.ensures.watches.looks c.loop-word-test.true c.word-item.is before.names c.from_residual.result _ c.from_residual.ensures.1
+    (c.in_err-request_of.ensures.names (of_there m old graph before.grown reading apart c.loop-word.world c.loop-word.lookups before.of))
+    (told_word c.request_of.new.graph c.word-item.result _ c.in_err-request_of.ensures.stops)
+
+pub returns-in_err-push-clause-names : goal.returns-in_err-push-clause-names
+returns-in_err-push-clause-names g c = words_memory g.W.Disk.meaning c.args.graph.now c.args.asked.now c.request_of.new.world c.from_residual-in_err-push.result c.from_residual-in_err-push.ensures.1
+
+pub returns-clause-names : goal.returns-clause-names
+returns-clause-names g c = words_all g.W.Disk.meaning c.args.graph.now c.args.asked.now c.loop-word.word-index c.loop-word.world _ c.loop-word-test.false c.loop-word.invariant.names

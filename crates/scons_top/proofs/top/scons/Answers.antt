@@ -2,6 +2,7 @@ use Rattle.std.specs.Prelude.{Ok}
 use Rattle.scons_top.proofs.Serving.{cut_ended, run_at, run_ended}
 use Rattle.scons_top.proofs.Telling.{tells_stopped}
 use Rattle.scons_top.proofs.Completing.{completes}
+use Rattle.scons_top.proofs.Wording.{report_words, stop_words}
 use Rattle.scons_top.proofs.Opening.{reported_bytes, stopped_bytes}
 use Rattle.scons_top.proofs.Refusing.{report_opens, stop_opens}
 use Rattle.scons_top.proofs.Clearing.{cleans_report, cleans_stop}
@@ -119,3 +120,9 @@ pub returns-in-Err-clause-completes : goal.returns-in-Err-clause-completes
 returns-in-Err-clause-completes g c = λ said is.
     completes _ _ c.ended.result (λ place kind has. not_refused _ said _ is (returns-in-Err-clause-usage g c place kind has)) (returns-in-Err-clause-faults g c)
     (returns-in-Err-clause-causes g c) c.ended.ensures.status
+
+pub returns-in-Ok-clause-asks : goal.returns-in-Ok-clause-asks
+returns-in-Ok-clause-asks g c = λ said is t. report_words said _ _ _ c.in-Ok.report c.in-Ok.ensures.ends.ends c.in-Ok.ensures.late (c.in-Ok.ensures.asks said is t)
+
+pub returns-in-Err-clause-asks : goal.returns-in-Err-clause-asks
+returns-in-Err-clause-asks g c = λ said is t. stop_words said _ _ _ _ c.ended.result c.ended.ensures.at c.ended.ensures.alone (c.in-Err.ensures.asks said is t)
