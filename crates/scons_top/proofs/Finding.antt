@@ -1,9 +1,9 @@
 -- What is found of words as they are looked for, one after another.
-use Rattle.std.proofs.Common.{◌≡◌, ◌≢◌, ◌∙◌, ◌≤◌, ◌<◌, ◌+◌, ◌⊎◌, inl, inr, ap, sym, subst, refl, ℕ, Bool, true, false, List, [], ◌∷◌, ◌++◌, Option, Some, None, length, take, get_or, map, Vec}
-use Rattle.std.specs.Prelude.{◌||◌, All, IfErr, IfOk, IfSome, IsErrAnd, IsSome, MatchOption, Ok, Err, Result, is_some, slice_get}
+use Rattle.std.proofs.Common.{◌≡◌, ◌≢◌, ◌∙◌, ◌≤◌, ◌<◌, ◌+◌, ◌⊎◌, inl, inr, ap, sym, subst, refl, ℕ, Bool, true, false, List, [], ◌∷◌, ◌++◌, Option, Some, None, length, take, get_or, map, arith}
+use Rattle.std.specs.Prelude.{◌||◌, ◌==◌, All, IfErr, IfOk, IfSome, IsErrAnd, IsSome, MatchOption, Ok, Err, Result, is_some, slice_get}
 use Rattle.std.specs.List.{filter, list_any}
 use Rattle.std.specs.Option.{option_copied}
-use Rattle.std.proofs.lemmas.Bool.{cond-false, cond-true, false≢true}
+use Rattle.std.proofs.lemmas.Bool.{cond-false, cond-true, eq-eqb, eqb-true, false≢true}
 use Rattle.std.proofs.lemmas.List.{take_all}
 use Rattle.std.proofs.lemmas.List.Elements.{All-more, All-nil, All-weaker}
 use Rattle.std.proofs.lemmas.List.Sorted.{list_any-IsPermutation}
@@ -111,6 +111,14 @@ module _ (g : RuleGraph) (p : List ℕ) (nodes : List NodeId) (below : AreBelow 
   unfolding lies
   below_some some = list_any-IsPermutation lies (targets_in g g.rules) below.targets below.listed.all
       ∙ any_some lies (λ (t : List ℕ × NodeId). t.1) below.targets (λ none. some (below.those ∙ none))
+
+-- by the length of what was found
+pub none_found : {X : Type 0} (len : ℕ) (xs : List X) → len ≡ length xs → (len == 0) ≡ true → xs ≡ []
+none_found len [] same is = refl
+none_found len (x ∷ xs) same is = let none = eqb-true len 0 is in absurd (omega (arith, same, none))
+
+pub some_found : {X : Type 0} (len : ℕ) (xs : List X) → len ≡ length xs → (len == 0) ≡ false → xs ≢ []
+some_found len xs same is none = false≢true (sym is ∙ eq-eqb len 0 (same ∙ ap length none))
 
 -- ---- records
 
@@ -244,6 +252,9 @@ pub nothing_named : (g : RuleGraph) (around : Around) (records : Map) (word : Li
 nothing_named g around records word none no_path =
     subst (λ (o : Option (List NodeId)). MatchOption o (is_path word ≡ true → IsThere g around records (spelling g.top word) → ⊥) (λ members. is_path word ≡ false))
     (sym none) (λ is. absurd (false≢true (sym no_path ∙ is)))
+
+pub alias_named : (g : RuleGraph) (word name : List ℕ) (members : List NodeId) → name ≡ word → members_of g.aliases name ≡ Some members → members_of g.aliases word ≡ Some members
+alias_named g word name members same is = subst (λ (w : List ℕ). members_of g.aliases w ≡ Some members) same is
 
 -- an alias whose name is no path
 pub nameless : (g : RuleGraph) (around : Around) (records : Map) (word : List ℕ) (members : List NodeId) → members_of g.aliases word ≡ Some members → is_path word ≡ false

@@ -85,13 +85,13 @@ returns-in-File-clause-of g c = λ h.
 
 pub returns-in_err-targets_below-in-Dir-clause-of : goal.returns-in_err-targets_below-in-Dir-clause-of
 returns-in_err-targets_below-in-Dir-clause-of g c = λ h. record {
-  targets = c.targets_below-in-Dir.ensures.lists h.targets;
+  targets = c.targets_below.ensures.lists h.targets;
   records = records_on g.W.Disk.meaning c.args.world.now c.kind_of.new.world c.args.lookups.now.view c.kind_of.ensures.watches.looks h.records;
 }
 
 pub returns-in_ok-targets_below-in-Dir-clause-of : goal.returns-in_ok-targets_below-in-Dir-clause-of
 returns-in_ok-targets_below-in-Dir-clause-of g c = λ h. record {
-  targets = c.targets_below-in-Dir.ensures.lists h.targets;
+  targets = c.targets_below.ensures.lists h.targets;
   records = records_on g.W.Disk.meaning c.args.world.now c.kind_of.new.world c.args.lookups.now.view c.kind_of.ensures.watches.looks h.records;
 }
 

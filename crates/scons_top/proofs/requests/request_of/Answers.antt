@@ -4,6 +4,7 @@ use Rattle.scons_top.specs.Asked.{IsNoPath, IsUnknownAs, IsWordIn, NamesNone}
 use Rattle.scons_top.specs.Requested.{AreNodes}
 use Rattle.scons_base.specs.Resolve.{spelling}
 use Rattle.rule_graph.specs.Aliases.{members_of}
+use Rattle.build_files.specs.Leftovers.{is_made}
 use Rattle.scons_base.specs.PathFaults.{is_path}
 use Rattle.scons_top.specs.Finding.{TellsRule}
 use Rattle.scons_top.specs.Below.{KnowsTargets}
@@ -11,7 +12,7 @@ use Rattle.scons_top.specs.Asked.{IsReadAs}
 use Rattle.scons_top.specs.Naming.{NamesNothing, NamesSome}
 use Rattle.scons_top.specs.Naming.NamesSome.{alias}
 use Rattle.sign_store.specs.Ends.{image_in}
-use Rattle.scons_top.proofs.Finding.{nameless, no_path_only, nothing_named, of_on, silent_list, spelled_word, silent_made, silent_memory, unknown_exit, word_made, word_path}
+use Rattle.scons_top.proofs.Finding.{alias_named, nameless, no_path_only, nothing_named, of_on, silent_list, spelled_word, silent_made, silent_memory, unknown_exit, word_made, word_path}
 use Rattle.scons_top.proofs.Grown.{grown_here}
 use Rattle.std.proofs.Common.{rules, ◌≡◌, ◌∙◌, false, ap, refl, subst, sym, None}
 use Rattle.std.specs.Option.{option_copied}
@@ -126,7 +127,7 @@ returns-in_err-check_members-clause-names g c = λ h rest.
     let word = c.args.word.now in
     let around = m.around c.check_members.new.world in
     let records = image_in (m.seen c.check_members.new.world) in
-    let some = sym c.alias.ensures.members ∙ ap option_copied c.in-Some.is in
+    let some = alias_named c.args.graph.now word c.as_str.result.now c.in-Some.members.now c.as_str.ensures (sym c.alias.ensures.members ∙ ap option_copied c.in-Some.is) in
     unknown_exit (NamesSome c.args.graph.now around records word) (NamesNothing c.args.graph.now around records word) r.result _ r.ensures.1
     (no_path_only (NamesNothing c.args.graph.now around records word) word _ c.in_err-check_members.ensures.stops
     (λ bare. nameless c.args.graph.now around records word c.in-Some.members.now some bare))
@@ -137,7 +138,7 @@ returns-in-Some-clause-names g c = λ h rest.
     let word = c.args.word.now in
     let around = m.around c.check_members.new.world in
     let records = image_in (m.seen c.check_members.new.world) in
-    let some = sym c.alias.ensures.members ∙ ap option_copied c.in-Some.is in
+    let some = alias_named c.args.graph.now word c.as_str.result.now c.in-Some.members.now c.as_str.ensures (sym c.alias.ensures.members ∙ ap option_copied c.in-Some.is) in
     silent_made (NamesSome c.args.graph.now around records word) (NamesNothing c.args.graph.now around records word) c.made.result c.made.ensures.stops (alias c.in-Some.members.now some)
 
 pub returns-in_default-2-clause-names : goal.returns-in_default-2-clause-names
@@ -175,17 +176,17 @@ returns-clause-names g c = λ h.
     (c.file_request.ensures.finds (of_on m graph c.args.world.now c.has_rule.new.world c.args.lookups.now c.has_rule.ensures.watches.looks h))
 
 pub returns-in_err-nodes-clause-of : goal.returns-in_err-nodes-clause-of
-returns-in_err-nodes-clause-of g c = λ h. record { targets = c.members_of-nodes.ensures.lists h.targets; records = h.records }
+returns-in_err-nodes-clause-of g c = λ h. record { targets = c.members_of.ensures.lists h.targets; records = h.records }
 
 pub returns-in_err-check_members-clause-of : goal.returns-in_err-check_members-clause-of
 returns-in_err-check_members-clause-of g c = λ h. record {
-  targets = subst (KnowsTargets c.args.graph.now) (sym c.check_members.ensures.below) (c.members_of-nodes.ensures.lists h.targets);
+  targets = subst (KnowsTargets c.args.graph.now) (sym c.check_members.ensures.below) (c.members_of.ensures.lists h.targets);
   records = c.check_members.ensures.records h.records;
 }
 
 pub returns-in-Some-clause-of : goal.returns-in-Some-clause-of
 returns-in-Some-clause-of g c = λ h. record {
-  targets = subst (KnowsTargets c.args.graph.now) (sym c.check_members.ensures.below) (c.members_of-nodes.ensures.lists h.targets);
+  targets = subst (KnowsTargets c.args.graph.now) (sym c.check_members.ensures.below) (c.members_of.ensures.lists h.targets);
   records = c.check_members.ensures.records h.records;
 }
 
