@@ -312,9 +312,9 @@ module _ {W : Type 0} (m : Meaning W) (g k : RuleGraph) (grown : HasGrown g k) (
           nothing = nothing_back g k grown reading apart around records word (nothing rest other told);
         }))
 
-pub words_all : {W T : Type 0} (m : Meaning W) (g : RuleGraph) (asked : List (List ℕ)) (i : ℕ) (a : W) (value : T) → length asked ≤ i
-    → (AtRest m a → All (NamesSome g (m.around a) (image_in (m.seen a))) (take i asked)) → FindsWords m g asked a (Ok value)
-words_all m g asked i a value le names = λ rest. subst (λ (words : List (List ℕ)). All (NamesSome g (m.around a) (image_in (m.seen a))) words) (take_all i asked le) (names rest)
+pub words_all : {W : Type 0} (m : Meaning W) (g : RuleGraph) (asked : List (List ℕ)) (i : ℕ) (a : W) → length asked ≤ i
+    → (AtRest m a → All (NamesSome g (m.around a) (image_in (m.seen a))) (take i asked)) → AtRest m a → All (NamesSome g (m.around a) (image_in (m.seen a))) asked
+words_all m g asked i a le names rest = subst (λ (words : List (List ℕ)). All (NamesSome g (m.around a) (image_in (m.seen a))) words) (take_all i asked le) (names rest)
 
 pub words_memory : {W T : Type 0} (m : Meaning W) (g : RuleGraph) (asked : List (List ℕ)) (a : W) (r : Result T Stop) → IsErrAnd r (λ s. s ≡ stop.Memory) → FindsWords m g asked a r
 words_memory m g asked a (Ok value) is = absurd is

@@ -79,4 +79,4 @@ pub returns-in_err-push-clause-names : goal.returns-in_err-push-clause-names
 returns-in_err-push-clause-names g c = words_memory g.W.Disk.meaning c.args.graph.now c.args.asked.now c.request_of.new.world c.from_residual-in_err-push.result c.from_residual-in_err-push.ensures.1
 
 pub returns-clause-names : goal.returns-clause-names
-returns-clause-names g c = words_all g.W.Disk.meaning c.args.graph.now c.args.asked.now c.loop-word.word-index c.loop-word.world _ c.loop-word-test.false c.loop-word.invariant.names
+returns-clause-names g c = words_all g.W.Disk.meaning c.args.graph.now c.args.asked.now c.loop-word.word-index c.loop-word.world c.loop-word-test.false c.loop-word.invariant.names
