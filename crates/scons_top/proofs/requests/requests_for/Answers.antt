@@ -1,12 +1,17 @@
 use Rattle.scons_top.proofs.Opening.{bytes_after, bytes_exit, bytes_memory}
 use Rattle.scons_top.proofs.Asking.{asked_exit, asked_memory, stops_weaker, unknown_of}
 use Rattle.scons_top.specs.Asked.{IsUnknownAs, IsUnknownOf}
-use Rattle.std.proofs.Common.{◌∙◌}
+use Rattle.std.proofs.Common.{◌∙◌, ap, refl, subst, sym}
+use Rattle.std.proofs.lemmas.List.Elements.{All-nil}
+use Rattle.sign_store.specs.Ends.{image_in}
+use Rattle.scons_top.specs.Asked.{words_asked}
+use Rattle.scons_top.specs.Naming.{NamesSome}
+use Rattle.scons_top.specs.Requested.{AskForNodes, AsksForNodes}
 use Rattle.build_means.specs.Rules.{IsReading}
-use Rattle.scons_top.proofs.Finding.{of_here, of_there, told_word, words_all, words_memory, words_more, words_stop}
-use Rattle.scons_top.proofs.Grown.{grown_on}
+use Rattle.scons_top.proofs.Finding.{of_here, of_nothing, of_there, told_word, words_all, words_memory, words_more, words_stop}
+use Rattle.scons_top.proofs.Grown.{grown_here, grown_on}
 use Rattle.scons_top.proofs.Requesting.{asks_pushed, words_pushed}
-use Rattle.scons_top.proofs.Watching.{watches_on}
+use Rattle.scons_top.proofs.Watching.{watches_on, watches_same}
 use Rattle.scons_top.proofs.Causing.{world_back, world_exit, world_memory}
 use Rattle.scons_top.proofs.requests.requests_for.Goals as goal
 
@@ -15,6 +20,23 @@ returns-in_err-request_of-clause-watches g c = watches_on _ _ _ _ c.loop-word.in
 
 pub returns-in_err-push-clause-watches : goal.returns-in_err-push-clause-watches
 returns-in_err-push-clause-watches g c = watches_on _ _ _ _ c.loop-word.invariant.watches c.request_of.ensures.watches
+
+pub loop-word-init : goal.loop-word-init
+loop-word-init g c =
+    let m = g.W.Disk.meaning in
+    let graph = c.args.graph.now in
+    let world = c.args.world.now in
+    let none = c.new-requests.ensures.items in
+    record {
+      watches = watches_same m world;
+      same = refl;
+      knows = c.new-lookups.ensures.knows graph;
+      nodes = subst (AskForNodes graph) (sym none) (All-nil (AsksForNodes graph));
+      grown = grown_here graph;
+      of = of_nothing m graph world c.new-lookups.result (c.new-lookups.ensures.lists graph) c.new-lookups.ensures.none;
+      names = λ rest. All-nil (NamesSome graph (m.around world) (image_in (m.seen world)));
+      words = ap words_asked none;
+    }
 
 pub loop-word-preserved : goal.loop-word-preserved
 loop-word-preserved g c =
