@@ -40,22 +40,22 @@ loop-word-init g c =
 
 pub loop-word-preserved : goal.loop-word-preserved
 loop-word-preserved g c =
-  let reading : IsReading c.args.graph.now = record { apart = c.laws.ensures.apart; single = c.laws.ensures.single; named = c.laws.ensures.named } in
-  record {
-  watches = watches_on _ _ _ _ c.loop-word.invariant.watches c.request_of.ensures.watches;
-  same = c.in_ok-request_of.ensures.step ∙ c.loop-word.invariant.same;
-  knows = c.request_of.ensures.knows c.loop-word.invariant.knows;
-  nodes = asks_pushed c.loop-word.graph c.request_of.new.graph _ _ _ c.request_of.ensures.more c.in_ok-push.ensures.items c.loop-word.invariant.nodes
-      (c.in_ok-request_of.ensures.nodes c.loop-word.invariant.knows);
-  grown = grown_on c.args.graph.now c.loop-word.graph c.request_of.new.graph c.loop-word.invariant.grown c.request_of.ensures.grown;
-  of = of_here g.W.Disk.meaning c.args.graph.now c.loop-word.graph c.loop-word.invariant.grown reading c.request_of.ensures.apart c.request_of.new.world c.request_of.new.lookups
-      (c.request_of.ensures.of (of_there g.W.Disk.meaning c.args.graph.now c.loop-word.graph c.loop-word.invariant.grown reading c.request_of.ensures.apart c.loop-word.world c.loop-word.lookups c.loop-word.invariant.of));
-  names = words_more g.W.Disk.meaning c.args.graph.now c.loop-word.graph c.loop-word.invariant.grown reading c.request_of.ensures.apart c.loop-word.world c.request_of.new.world
-      c.args.asked.now c.loop-word.word-index c.word-item.result c.request_of.ensures.watches.looks c.loop-word-test.true c.word-item.is c.loop-word.invariant.names
-      (c.in_ok-request_of.ensures.names (of_there g.W.Disk.meaning c.args.graph.now c.loop-word.graph c.loop-word.invariant.grown reading c.request_of.ensures.apart c.loop-word.world c.loop-word.lookups c.loop-word.invariant.of));
-  words = words_pushed c.loop-word.requests.items _ _ c.args.asked.now c.loop-word.word-index c.word-item.result c.loop-word-test.true c.word-item.is
-      c.in_ok-push.ensures.items c.in_ok-request_of.ensures.word c.loop-word.invariant.words;
-}
+    let reading : IsReading c.args.graph.now = record { apart = c.laws.ensures.apart; single = c.laws.ensures.single; named = c.laws.ensures.named } in
+    record {
+      watches = watches_on _ _ _ _ c.loop-word.invariant.watches c.request_of.ensures.watches;
+      same = c.in_ok-request_of.ensures.step ∙ c.loop-word.invariant.same;
+      knows = c.request_of.ensures.knows c.loop-word.invariant.knows;
+      nodes = asks_pushed c.loop-word.graph c.request_of.new.graph _ _ _ c.request_of.ensures.more c.in_ok-push.ensures.items c.loop-word.invariant.nodes
+          (c.in_ok-request_of.ensures.nodes c.loop-word.invariant.knows);
+      grown = grown_on c.args.graph.now c.loop-word.graph c.request_of.new.graph c.loop-word.invariant.grown c.request_of.ensures.grown;
+      of = of_here g.W.Disk.meaning c.args.graph.now c.loop-word.graph c.loop-word.invariant.grown reading c.request_of.ensures.apart c.request_of.new.world c.request_of.new.lookups
+          (c.request_of.ensures.of (of_there g.W.Disk.meaning c.args.graph.now c.loop-word.graph c.loop-word.invariant.grown reading c.request_of.ensures.apart c.loop-word.world c.loop-word.lookups c.loop-word.invariant.of));
+      names = words_more g.W.Disk.meaning c.args.graph.now c.loop-word.graph c.loop-word.invariant.grown reading c.request_of.ensures.apart c.loop-word.world c.request_of.new.world
+          c.args.asked.now c.loop-word.word-index c.word-item.result c.request_of.ensures.watches.looks c.loop-word-test.true c.word-item.is c.loop-word.invariant.names
+          (c.in_ok-request_of.ensures.names (of_there g.W.Disk.meaning c.args.graph.now c.loop-word.graph c.loop-word.invariant.grown reading c.request_of.ensures.apart c.loop-word.world c.loop-word.lookups c.loop-word.invariant.of));
+      words = words_pushed c.loop-word.requests.items _ _ c.args.asked.now c.loop-word.word-index c.word-item.result c.loop-word-test.true c.word-item.is
+          c.in_ok-push.ensures.items c.in_ok-request_of.ensures.word c.loop-word.invariant.words;
+    }
 
 pub returns-in_err-request_of-clause-step : goal.returns-in_err-request_of-clause-step
 returns-in_err-request_of-clause-step g c = world_back _ _ _ c.from_residual.result c.loop-word.invariant.same (world_exit _ _ c.from_residual.result _ c.from_residual.ensures.1 c.in_err-request_of.ensures.step)
