@@ -64,11 +64,11 @@ module _ {W : Type 0} (m : Meaning W) (said : Words) (g : RuleGraph) (a b : W) (
       subst (λ (around : Around). P around (image_in (m.seen a))) (around_stays m a b looks (at_rest tells))
       (subst (λ (records : Map). P (m.around b) records) (records_stay m a b looks tells) p)
 
-  pub run_asked : (r : Result Report Stop) (s : Stop) → IsErrAnd r (λ x. x ≡ s)
+  pub run_refused : (r : Result Report Stop) (s : Stop) → IsErrAnd r (λ x. x ≡ s)
       → (AtRest m b → (word : List ℕ) → s ≡ stop.Fault (own.UnknownTarget word) → IsFirstUnknown g (m.around b) (image_in (m.seen b)) (asked_by g said) word)
       → RunTellsWords m said step.Requests a b r
-  run_asked (Ok report) s is h = absurd is
-  run_asked (Err x) s is h = λ tells. record {
+  run_refused (Ok report) s is h = absurd is
+  run_refused (Err x) s is h = λ tells. record {
     graph = g;
     first = λ word told. back (λ around records. IsFirstUnknown g around records (asked_by g said) word) tells (h (at_rest tells) word (sym is ∙ told));
     named = λ behind. absurd behind;

@@ -1,6 +1,6 @@
 use Rattle.scons_top.proofs.Serving.{run_asked, run_help, run_read, run_served}
 use Rattle.scons_top.proofs.Telling.{none_told, stops_silent}
-use Rattle.scons_top.proofs.Wording.{reading_before, run_asked, run_behind, run_untold}
+use Rattle.scons_top.proofs.Wording.{reading_before, run_behind, run_refused, run_untold}
 use Rattle.scons_top.proofs.Opening.{reading_ends, help_ends, asked_unopened, run_after}
 use Rattle.scons_top.proofs.Clearing.{not_reading, cleans_after}
 use Rattle.scons_top.specs.declared.step.Step.TheVariants as step
@@ -213,7 +213,7 @@ returns-then-words-clause-asks g c =
 pub returns-in_err-requests-clause-asks : goal.returns-in_err-requests-clause-asks
 returns-in_err-requests-clause-asks g c =
     let r = c.from_residual-in_err-requests in
-    run_asked g.W.Disk.meaning c.args.words.now c.in_ok-graph.graph c.args.world.now c.requests_of.new.world
+    run_refused g.W.Disk.meaning c.args.words.now c.in_ok-graph.graph c.args.world.now c.requests_of.new.world
     (looks_joined _ _ _ _ c.read.ensures.watches.looks c.requests_of.ensures.watches.looks) c.requires.idle r.result _ r.ensures.1 c.in_err-requests.ensures.names
 
 pub returns-clause-asks : goal.returns-clause-asks
