@@ -17,6 +17,7 @@ use Rattle.rule_graph.specs.declared.build_fault.BuildFault.{BuildFault}
 use Rattle.rule_graph.specs.declared.build_fault.BuildFault.TheVariants as fault
 use Rattle.scons_base.specs.declared.ids.NodeId.{NodeId}
 use Rattle.build_files.specs.Causes.{HasEndCause, HasFaultCause as HasLookFault}
+use Rattle.build_files.specs.Leftovers.{has_rule, is_made}
 use Rattle.build_files.specs.declared.end.ListEnd.{ListEnd}
 use Rattle.build_files.specs.declared.end.ListEnd.TheVariants as list_end
 use Rattle.sign_store.specs.declared.refusals.StoreRefusal.{StoreRefusal}
@@ -28,7 +29,7 @@ use Rattle.scons_top.specs.declared.stop.OwnFault.{OwnFault}
 use Rattle.scons_top.specs.declared.stop.OwnFault.TheVariants as own
 use Rattle.scons_top.specs.declared.stop.Stop.{Stop}
 use Rattle.scons_top.specs.declared.stop.Stop.TheVariants as stop
-use Rattle.scons_top.specs.Asked.{asked_of, is_target, is_target_at, IsReadAs, IsToldUnknown, StopsUnknown, IsNoPath, IsUnknown, IsUnknownAs, IsUnknownOf, IsWord, IsWordIn, NamesNone, StopsFor}
+use Rattle.scons_top.specs.Asked.{asked_of, IsReadAs, IsToldUnknown, StopsUnknown, IsNoPath, IsUnknown, IsUnknownAs, IsUnknownOf, IsWord, IsWordIn, NamesNone, StopsFor}
 use Rattle.scons_words.specs.declared.words.Words.{Words}
 use Rattle.rule_graph.specs.declared.wish.Wish.{Wish}
 use Rattle.scons_top.specs.declared.report.Report.{Report}
@@ -115,18 +116,18 @@ none_as P word h = absurd h
 
 -- a word that isn't known
 
-unknown_none : (g : RuleGraph) (word : List ℕ) (found : Option (List NodeId)) → found ≡ None → (is_path word ≡ true → is_target g (spelling g.top word) ≡ false)
-    → MatchOption found (is_path word ≡ true → is_target g (spelling g.top word) ≡ false) (λ members. is_path word ≡ false)
+unknown_none : (g : RuleGraph) (word : List ℕ) (found : Option (List NodeId)) → found ≡ None → (is_path word ≡ true → is_made g (spelling g.top word) ≡ false)
+    → MatchOption found (is_path word ≡ true → is_made g (spelling g.top word) ≡ false) (λ members. is_path word ≡ false)
 unknown_none g word found is h =
-    subst (λ (o : Option (List NodeId)). MatchOption o (is_path word ≡ true → is_target g (spelling g.top word) ≡ false) (λ members. is_path word ≡ false)) (sym is) h
+    subst (λ (o : Option (List NodeId)). MatchOption o (is_path word ≡ true → is_made g (spelling g.top word) ≡ false) (λ members. is_path word ≡ false)) (sym is) h
 
-pub unknown_path : (g : RuleGraph) (word name : List ℕ) → name ≡ word → members_of g.aliases name ≡ None → (is_path word ≡ true → is_target g (spelling g.top word) ≡ false) → IsUnknown g word
+pub unknown_path : (g : RuleGraph) (word name : List ℕ) → name ≡ word → members_of g.aliases name ≡ None → (is_path word ≡ true → is_made g (spelling g.top word) ≡ false) → IsUnknown g word
 unknown_path g word name same none h = unknown_none g word (members_of g.aliases word) (subst (λ (w : List ℕ). members_of g.aliases w ≡ None) same none) h
 
 unknown_some : (g : RuleGraph) (word : List ℕ) (found : Option (List NodeId)) (members : List NodeId) → found ≡ Some members → is_path word ≡ false
-    → MatchOption found (is_path word ≡ true → is_target g (spelling g.top word) ≡ false) (λ members. is_path word ≡ false)
+    → MatchOption found (is_path word ≡ true → is_made g (spelling g.top word) ≡ false) (λ members. is_path word ≡ false)
 unknown_some g word found members is h =
-    subst (λ (o : Option (List NodeId)). MatchOption o (is_path word ≡ true → is_target g (spelling g.top word) ≡ false) (λ members. is_path word ≡ false)) (sym is) h
+    subst (λ (o : Option (List NodeId)). MatchOption o (is_path word ≡ true → is_made g (spelling g.top word) ≡ false) (λ members. is_path word ≡ false)) (sym is) h
 
 pub unknown_alias : (g : RuleGraph) (word name : List ℕ) (members : List NodeId) → name ≡ word → members_of g.aliases name ≡ Some members → is_path word ≡ false → IsUnknown g word
 unknown_alias g word name members same is h = unknown_some g word (members_of g.aliases word) members (subst (λ (w : List ℕ). members_of g.aliases w ≡ Some members) same is) h
@@ -135,10 +136,10 @@ unknown_alias g word name members same is h = unknown_some g word (members_of g.
 pub unknown_at : (old new : RuleGraph) (word other : List ℕ) → IsUnknown old word → IsWordIn old new word other → IsUnknownAs new word other
 unknown_at old new word other h is = (is.0, subst (λ (g : RuleGraph). IsUnknown g word) (sym is.1) h)
 
-pub target_spelled : (g : RuleGraph) (word above path spelled : List ℕ) → path ≡ word → above ≡ g.top → spelled ≡ spelling above path → is_target g spelled ≡ false
-    → is_target g (spelling g.top word) ≡ false
+pub target_spelled : (g : RuleGraph) (word above path spelled : List ℕ) → path ≡ word → above ≡ g.top → spelled ≡ spelling above path → is_made g spelled ≡ false
+    → is_made g (spelling g.top word) ≡ false
 target_spelled g word above path spelled is at spells h =
-    subst (λ (p : List ℕ). is_target g p ≡ false) (spells ∙ ap (λ (t : List ℕ). spelling t path) at ∙ ap (λ (p : List ℕ). spelling g.top p) is) h
+    subst (λ (p : List ℕ). is_made g p ≡ false) (spells ∙ ap (λ (t : List ℕ). spelling t path) at ∙ ap (λ (p : List ℕ). spelling g.top p) is) h
 
 -- a word that was read as a path is that path
 pub read_as : (word path : List ℕ) (found : Option (List ℕ)) → found ≡ Some path → IsReadAs word found → path ≡ word
@@ -153,12 +154,12 @@ number_as : (g : RuleGraph) (path : List ℕ) (found same : Option NodeId) → o
 number_as g path found same at is = sym at ∙ ap (λ (o : Option NodeId). option_map (λ (id : NodeId). id.0) o) is
 
 pub declared_some : (g : RuleGraph) (path : List ℕ) (found : Option NodeId) (node : NodeId) (rule : Option RuleId) (b : Bool) → option_map (λ (id : NodeId). id.0) found ≡ number_of g.nodes path
-    → found ≡ Some node → option_map (λ (id : RuleId). id.0) rule ≡ rule_of g.rules node.0 → b ≡ is_some rule → b ≡ is_target g path
+    → found ≡ Some node → option_map (λ (id : RuleId). id.0) rule ≡ rule_of g.rules node.0 → b ≡ is_some rule → b ≡ is_made g path
 declared_some g path found node rule b at is of said =
-    said ∙ sym (some_map (λ (id : RuleId). id.0) rule) ∙ ap (λ (o : Option ℕ). is_some o) of ∙ sym (ap (is_target_at g) (number_as g path found (Some node) at is))
+    said ∙ sym (some_map (λ (id : RuleId). id.0) rule) ∙ ap (λ (o : Option ℕ). is_some o) of ∙ sym (ap (has_rule g.rules) (number_as g path found (Some node) at is))
 
-pub declared_none : (g : RuleGraph) (path : List ℕ) (found : Option NodeId) → option_map (λ (id : NodeId). id.0) found ≡ number_of g.nodes path → found ≡ None → false ≡ is_target g path
-declared_none g path found at is = sym (ap (is_target_at g) (number_as g path found None at is))
+pub declared_none : (g : RuleGraph) (path : List ℕ) (found : Option NodeId) → option_map (λ (id : NodeId). id.0) found ≡ number_of g.nodes path → found ≡ None → false ≡ is_made g path
+declared_none g path found at is = sym (ap (has_rule g.rules) (number_as g path found None at is))
 
 -- a word as a path
 

@@ -15,6 +15,14 @@ mod Opening
 mod Stopping
 mod Shown
 mod Asking
+mod Alone
+mod Orders
+mod Listed
+mod Grown
+mod Finding
+mod Wording
+mod Refusing
+mod Completing
 mod Marking
 mod Printing
 mod Removing

@@ -1,5 +1,5 @@
 -- What is told of the bytes of the signature file, by the step at which a run ends.
-use Rattle.std.proofs.Common.{◌≡◌, ◌∙◌, ◌⊎◌, inl, inr, sym, subst, refl, ap, ℕ, List, [], Contains}
+use Rattle.std.proofs.Common.{◌≡◌, ◌≢◌, ◌∙◌, ◌⊎◌, inl, inr, sym, subst, refl, ap, ℕ, List, [], Contains}
 use Rattle.std.specs.Prelude.{All, Result, Ok, Err, IsErrAnd, IfErr, IfOk}
 use Rattle.std.proofs.lemmas.List.Elements.{All-weaker, All-contains}
 use Rattle.world_api.specs.Banks.{Banks}
@@ -22,7 +22,7 @@ use Rattle.scons_top.specs.declared.stop.Stop.{Stop}
 use Rattle.scons_top.specs.declared.stop.Stop.TheVariants as stop
 use Rattle.scons_top.specs.Faults.{IsLateStop, top_of_own}
 use Rattle.scons_top.specs.Asked.{NamesNone, StopsFor}
-use Rattle.scons_top.specs.Foreign.{IsOfBytes, StopsByBytes, StepByBytes, StepOnNone, IsOpened, TellsBytes, StopsAtBytes, EndsByBytes, RunByBytes}
+use Rattle.scons_top.specs.Foreign.{IsOfBytes, StopsByBytes, StepByBytes, StepOnNone, IsOpened, TellsBytes, StopsOpening, StopsOpeningAt, StopsAtBytes, EndsByBytes, RunByBytes}
 use Rattle.scons_top.specs.Steps.{ComesAt, AllComeAt, StopsAt, RunEndsAt, IsReadingStep, IsStopOr, IsFaultOr}
 use Rattle.scons_top.specs.Stops.{top_of, stop_of_list, stop_of_store, IsInside}
 
@@ -61,10 +61,26 @@ stop_elsewhere banks at (stop.Fault f) e h = fault_elsewhere banks at (top_of_ow
 stop_elsewhere banks at (stop.Build f) e h = tt
 stop_elsewhere banks at stop.Memory e h = tt
 
+-- no report comes at the step of the store
+not_store : (at : Step) → IsElsewhere at → at ≢ step.Store
+not_store at e is = subst IsElsewhere is e
+
+opens_elsewhere : (banks : Banks) (at : Step) (s : Stop) → IsElsewhere at → StopsOpeningAt banks at s
+opens_elsewhere banks step.Words s e = tt
+opens_elsewhere banks step.Load s e = tt
+opens_elsewhere banks step.Top s e = tt
+opens_elsewhere banks step.Reading s e = tt
+opens_elsewhere banks step.Help s e = tt
+opens_elsewhere banks step.Requests s e = tt
+opens_elsewhere banks step.Cleaning s e = tt
+opens_elsewhere banks step.Store s e = absurd e
+opens_elsewhere banks step.Listing s e = tt
+opens_elsewhere banks step.Building s e = tt
+
 ends_elsewhere : (banks : Banks) (at : Step) (r : Result Report Stop) → IsElsewhere at → (IsOpened at → AreReadable banks) → RunEndsAt at r → EndsByBytes banks at r
 ends_elsewhere banks at (Ok report) e opened h =
-    record { each = All-weaker (ComesAt at) (IsOfBytes banks) (λ f comes. fault_elsewhere banks at f e comes) report.faults h.faults; readable = opened }
-ends_elsewhere banks at (Err s) e opened h = record { stops = stop_elsewhere banks at s e h; readable = opened }
+    (record { each = All-weaker (ComesAt at) (IsOfBytes banks) (λ f comes. fault_elsewhere banks at f e comes) report.faults h.faults; readable = opened }, not_store at e)
+ends_elsewhere banks at (Err s) e opened h = record { stops = stop_elsewhere banks at s e h; readable = opened; opening = opens_elsewhere banks at s e }
 
 pub words_end : (banks : Banks) (r : Result Report Stop) → RunEndsAt step.Words r → EndsByBytes banks step.Words r
 words_end banks r h = ends_elsewhere banks step.Words r tt (λ no. absurd no) h
@@ -96,10 +112,24 @@ listing_ends banks r readable h = ends_elsewhere banks step.Listing r tt (λ o. 
 pub building_ends : (banks : Banks) (r : Result Report Stop) → AreReadable banks → RunEndsAt step.Building r → EndsByBytes banks step.Building r
 building_ends banks r readable h = ends_elsewhere banks step.Building r tt (λ o. readable) h
 
--- a run that stops as it opens the signature file, or before
-pub stops_unopened : (banks : Banks) (at : Step) (r : Result Report Stop) (s : Stop) → IsErrAnd r (λ x. x ≡ s) → (IsOpened at → ⊥) → StopsByBytes banks s → EndsByBytes banks at r
-stops_unopened banks at (Ok report) s is not h = absurd is
-stops_unopened banks at (Err x) s is not h = record { stops = subst (StopsByBytes banks) (sym is) h; readable = λ o. absurd (not o) }
+-- a run that stops before it opens the signature file
+pub asked_unopened : (banks : Banks) (r : Result Report Stop) (s : Stop) → IsErrAnd r (λ x. x ≡ s) → StopsByBytes banks s → EndsByBytes banks step.Requests r
+asked_unopened banks (Ok report) s is h = absurd is
+asked_unopened banks (Err x) s is h = record { stops = subst (StopsByBytes banks) (sym is) h; readable = λ o. absurd o; opening = tt }
+
+-- and one that stops as it opens it
+stops_store : (banks : Banks) (s : Stop) → StopsByBytes banks s → StopsOpening banks s → StopsAtBytes banks step.Store s
+stops_store banks s h o = record { stops = h; readable = λ x. absurd x; opening = o }
+
+pub stops_unopened : (banks : Banks) (r : Result Report Stop) (s : Stop) → IsErrAnd r (λ x. x ≡ s) → StopsByBytes banks s → StopsOpening banks s → EndsByBytes banks step.Store r
+stops_unopened banks (Ok report) s is h o = absurd is
+stops_unopened banks (Err x) s is h o = subst (StopsAtBytes banks step.Store) (sym is) (stops_store banks s h o)
+
+memory_opening : (banks : Banks) → StopsOpening banks stop.Memory
+memory_opening banks = record { why = refusal.Memory; refused = tt; stops = refl }
+
+pub memory_unopened : (banks : Banks) (r : Result Report Stop) → IsErrAnd r (λ x. x ≡ stop.Memory) → EndsByBytes banks step.Store r
+memory_unopened banks r is = stops_unopened banks r stop.Memory is tt (memory_opening banks)
 
 pub store_bytes : (banks : Banks) (e : StoreRefusal) → IsRefusal banks e → StopsByBytes banks (stop_of_store e)
 store_bytes banks refusal.Fault h = tt
@@ -107,9 +137,12 @@ store_bytes banks (refusal.Foreign bank) h = h
 store_bytes banks (refusal.Large size) h = tt
 store_bytes banks refusal.Memory h = tt
 
+pub store_opening : (banks : Banks) (s : Stop) (e : StoreRefusal) → s ≡ stop_of_store e → IsRefusal banks e → StopsOpening banks s
+store_opening banks s e is h = record { why = e; refused = h; stops = is }
+
 pub store_unopened : (banks : Banks) (r : Result Report Stop) (e : StoreRefusal) → IsErrAnd r (λ s. IsLateStop s × (s ≡ stop_of_store e)) → IsRefusal banks e → EndsByBytes banks step.Store r
 store_unopened banks (Ok report) e is h = absurd is
-store_unopened banks (Err s) e is h = record { stops = subst (StopsByBytes banks) (sym is.1) (store_bytes banks e h); readable = λ o. absurd o }
+store_unopened banks (Err s) e is h = stops_store banks s (subst (StopsByBytes banks) (sym is.1) (store_bytes banks e h)) (store_opening banks s e is.1 h)
 
 pub store_refused : (banks : Banks) (s : Stop) (e : StoreRefusal) → s ≡ stop_of_store e → IsRefusal banks e → StopsByBytes banks s
 store_refused banks s e is h = subst (StopsByBytes banks) (sym is) (store_bytes banks e h)
@@ -164,6 +197,9 @@ alone_bytes banks stop.Memory faults all h = All-weaker (IsStopOr stop.Memory) (
 
 pub report_bytes : (banks : Banks) (at : Step) (report : Report) → report.step ≡ at → TellsBytes banks at report.faults → TellsBytes banks report.step report.faults
 report_bytes banks at report is h = subst (λ (x : Step). TellsBytes banks x report.faults) (sym is) h
+
+pub reported_bytes : (banks : Banks) (at : Step) (report : Report) → report.step ≡ at → EndsByBytes banks at (Ok report) → TellsBytes banks report.step report.faults
+reported_bytes banks at report is h = report_bytes banks at report is h.0
 
 pub stopped_bytes : (banks : Banks) (at : Step) (s : Stop) (report : Report) → report.step ≡ at → All (IsStopOr s) report.faults → StopsAtBytes banks at s → TellsBytes banks report.step report.faults
 stopped_bytes banks at s report is all h = report_bytes banks at report is (record { each = alone_bytes banks s report.faults all h.stops; readable = h.readable })

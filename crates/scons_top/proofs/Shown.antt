@@ -121,7 +121,7 @@ pub caused_skipping : (a b : Outside) (report : Report) (pairs : List (Path × P
 caused_skipping a b report pairs h = record { later = h.later; each = h.each; counted = h.counted; told = h.told }
 
 pub ends_skipping : (at : Step) (report : Report) (pairs : List (Path × Path)) → ReportsAt at report → ReportsAt at (with_skipped report pairs)
-ends_skipping at report pairs h = record { ends = h.ends; faults = h.faults }
+ends_skipping at report pairs h = record { ends = h.ends; faults = h.faults; alone = h.alone }
 
 pub tells_skipping : {E : Type 0} (e : SinkMeaning E) (err new : E) (report : Report) (pairs : List (Path × Path)) → TellsFaults e err new report
     → TellsFaults e err new (with_skipped report pairs)

@@ -33,6 +33,8 @@ use Rattle.scons_top.specs.declared.stop.OwnFault.{OwnFault}
 use Rattle.scons_top.specs.declared.stop.OwnFault.TheVariants as own
 use Rattle.scons_top.specs.declared.stop.Stop.{Stop}
 use Rattle.scons_top.specs.declared.stop.Stop.TheVariants as stop
+use Rattle.scons_top.specs.Alone.{AreOne, EndsAtOne, GoesOn}
+use Rattle.scons_top.specs.Alone.AreOne.{no_fault}
 use Rattle.scons_top.specs.Faults.{IsLateStop, top_of_own}
 use Rattle.scons_top.specs.Builds.{EndsBefore}
 use Rattle.scons_top.specs.Asked.{NamesNone, StopsFor}
@@ -237,11 +239,46 @@ one_found at f none first empty is h =
     let P = λ (x : BuildFault). ComesAt at (top_of x) in
     subst (λ fs. AllFoundAt at fs) (sym (is ∙ ap (λ (fs : List BuildFault). fs ++ f ∷ []) empty)) (All-cons P f [] h (All-nil P))
 
-pub reports_at : (at : Step) (report : Report) → report.step ≡ at → AllComeAt at report.faults → ReportsAt at report
-reports_at at report is all = record { ends = is; faults = all }
+pub many_at : (at : Step) (faults : List Top) → GoesOn at → EndsAtOne at faults
+many_at step.Words faults on = absurd on
+many_at step.Load faults on = absurd on
+many_at step.Top faults on = absurd on
+many_at step.Reading faults on = absurd on
+many_at step.Help faults on = absurd on
+many_at step.Requests faults on = absurd on
+many_at step.Cleaning faults on = absurd on
+many_at step.Store faults on = absurd on
+many_at step.Listing faults on = tt
+many_at step.Building faults on = tt
+
+pub one_at : (at : Step) (faults : List Top) → AreOne faults → EndsAtOne at faults
+one_at step.Words faults one = one
+one_at step.Load faults one = one
+one_at step.Top faults one = one
+one_at step.Reading faults one = one
+one_at step.Help faults one = one
+one_at step.Requests faults one = one
+one_at step.Cleaning faults one = one
+one_at step.Store faults one = one
+one_at step.Listing faults one = tt
+one_at step.Building faults one = tt
+
+pub none_at : (at : Step) (faults : List Top) → faults ≡ [] → EndsAtOne at faults
+none_at at faults none = one_at at faults (subst AreOne (sym none) no_fault)
+
+-- by the report's own step
+pub alone_as : (at reported : Step) (faults : List Top) → reported ≡ at → EndsAtOne at faults → EndsAtOne reported faults
+alone_as at reported faults is h = subst (λ (s : Step). EndsAtOne s faults) (sym is) h
+
+pub reports_at : (at : Step) (report : Report) → report.step ≡ at → AllComeAt at report.faults → GoesOn at → ReportsAt at report
+reports_at at report is all on = record { ends = is; faults = all; alone = many_at at report.faults on }
 
 pub good_at : (at : Step) (report : Report) → report.step ≡ at → report.faults ≡ [] → ReportsAt at report
-good_at at report is none = record { ends = is; faults = subst (λ faults. AllComeAt at faults) (sym none) (All-nil (ComesAt at)) }
+good_at at report is none = record {
+  ends = is;
+  faults = subst (λ faults. AllComeAt at faults) (sym none) (All-nil (ComesAt at));
+  alone = none_at at report.faults none;
+}
 
 -- the one fault for which a run stops
 

@@ -1,12 +1,11 @@
 -- What is asked for: words, and which of them name nothing.
-use Rattle.std.specs.Prelude.{◌≡◌, ℕ, Bool, true, false, List, [], ◌∷◌, Option, Some, None, Contains, codes, is_some, map, MatchOption}
+use Rattle.std.specs.Prelude.{◌≡◌, ℕ, Bool, true, false, List, [], ◌∷◌, Option, Some, None, Contains, codes, map, MatchOption}
 use Rattle.scons_base.specs.PathFaults.{is_path}
 use Rattle.scons_base.specs.Resolve.{spelling}
 use Rattle.scons_words.specs.declared.words.Words.{Words}
-use Rattle.node_tree.specs.Nodes.{number_of}
 use Rattle.rule_graph.specs.Aliases.{members_of}
 use Rattle.rule_graph.specs.Graphs.{RuleGraph}
-use Rattle.rule_graph.specs.Rules.{rule_of}
+use Rattle.build_files.specs.Leftovers.{is_made}
 use Rattle.rule_graph.specs.declared.wish.Wish.{Wish}
 use Rattle.rule_graph.specs.declared.wish.Wish.TheVariants as wish
 use Rattle.scons_top.specs.declared.report.Top.{Top}
@@ -43,19 +42,11 @@ words_asked requests = map (λ request. request.word) requests
 
 -- words that name nothing
 
-abbrev pub is_target_at : RuleGraph → Option ℕ → Bool
-is_target_at g None = false
-is_target_at g (Some node) = is_some (rule_of g.rules node)
-
--- whether a path is a target of a declared rule
-abbrev pub is_target : RuleGraph → List ℕ → Bool
-is_target g path = is_target_at g (number_of g.nodes path)
-
 -- A word that isn't known is no alias and no target of a declared rule. An alias whose name is no path is told so too where a member
 -- of it isn't there.
 abbrev pub IsUnknown : RuleGraph → List ℕ → Type 0
 IsUnknown g word =
-    MatchOption (members_of g.aliases word) (is_path word ≡ true → is_target g (spelling g.top word) ≡ false) (λ members. is_path word ≡ false)
+    MatchOption (members_of g.aliases word) (is_path word ≡ true → is_made g (spelling g.top word) ≡ false) (λ members. is_path word ≡ false)
 
 -- a stop before all words stand for nodes, where a word that isn't known is one of which this holds
 abbrev pub StopsFor : (List ℕ → Type 0) → Stop → Type 0

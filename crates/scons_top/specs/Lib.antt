@@ -1,9 +1,14 @@
+pub mod Alone
+pub mod Below
+pub mod Naming
+pub mod Finding
 pub mod Asked
 pub mod Remembered
 pub mod Builds
 pub mod Counted
 pub mod Causes
 pub mod Cleaned
+pub mod Complete
 pub mod Endings
 pub mod Faults
 pub mod Foreign

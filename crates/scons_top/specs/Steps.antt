@@ -19,6 +19,7 @@ use Rattle.scons_top.specs.declared.step.Step.TheVariants as step
 use Rattle.scons_top.specs.declared.stop.OwnFault.TheVariants as own
 use Rattle.scons_top.specs.declared.stop.Stop.{Stop}
 use Rattle.scons_top.specs.declared.stop.Stop.TheVariants as stop
+use Rattle.scons_top.specs.Alone.{EndsAtOne}
 use Rattle.scons_top.specs.Builds.{EndsBefore}
 use Rattle.scons_top.specs.Remembered.{KeepsBanks}
 use Rattle.scons_top.specs.Faults.{top_of_own}
@@ -165,6 +166,7 @@ StopsAt at stop.Memory = Unit {0}
 pub record ReportsAt (at : Step) (report : Report) : Type 0 where
   pub ends : report.step ≡ at
   pub faults : AllComeAt at report.faults
+  pub alone : EndsAtOne at report.faults
 
 -- a run that gives a report or stops ended at this step
 abbrev pub RunEndsAt : Step → Result Report Stop → Type 0

@@ -2,7 +2,7 @@
 ghost use Rattle.std.specs.Prelude.{◌≡◌, ◌||◌, ◌&&◌, [], not, true, false, Contains, IfOk, IfErr};
 ghost use Rattle.build_run.specs.Goings.{Passes, Goes};
 ghost use Rattle.scons_top.specs.Faults.{IsLateStop, EarlyOnlyIf};
-ghost use Rattle.scons_top.specs.Foreign.{RunByBytes, StepByBytes};
+ghost use Rattle.scons_top.specs.Foreign.{RunByBytes, StepByBytes, StopsOpening};
 ghost use Rattle.sign_store.specs.Readings.{AreReadable};
 ghost use Rattle.world_api.specs.Statuses.{HasStatus};
 ghost use Rattle.rule_graph.specs.Graphs.{RuleGraph};
@@ -112,6 +112,7 @@ fn begin_store<W: World>(alloc: Global, world: &mut W) -> Result<Store, Stop>
     ensures keeps { IfOk result (IsKept W.meaning world.new) }
     ensures stops { IfErr result (StopsAt Step.Store) }
     ensures bytes { StepByBytes W.meaning world.old world.new result }
+    ensures refused { W.meaning.tells world.new → IfErr result (StopsOpening (W.meaning.seen world.old)) }
     ensures readable { W.meaning.tells world.new → IfOk result (λ store. AreReadable (W.meaning.seen world.old)) }
     ensures late { IfErr result IsLateStop }
     ensures begins { BeginsStore W.meaning world.old world.new }

@@ -208,7 +208,7 @@ fn take<W: World>(words: &Words, world: &mut W, path: &PathText) -> Result<bool,
 
 /// Whether a file stands at a path.
 #[tactic(auto, using(crate::proofs::Causing::causing))]
-fn is_file<W: World>(world: &mut W, path: &PathText) -> Result<bool, ListEnd>
+pub(crate) fn is_file<W: World>(world: &mut W, path: &PathText) -> Result<bool, ListEnd>
     ensures file { W.meaning.tells world.new → IfOk result (λ is. is ≡ is_some ((W.meaning.around world.new).tree path.now)) }
     ensures tree { IfErr result IsTreeEnd }
     ensures watches { Watches W.meaning world.old world.new }

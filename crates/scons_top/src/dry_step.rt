@@ -1,5 +1,6 @@
 //! A dry run: what a build would start is listed.
 ghost use Rattle.std.specs.Prelude.{◌≡◌, ◌++◌, ◌∷◌, [], true, false, IfOk, IfErr, slice_get, string_bytes};
+ghost use Rattle.scons_top.specs.Alone.{GoesOn};
 ghost use Rattle.scons_top.specs.Faults.{IsLateStop, EarlyOnlyIf};
 ghost use Rattle.scons_top.specs.Foreign.{RunByBytes};
 ghost use Rattle.sign_store.specs.Readings.{AreReadable, IsRefusal};
@@ -138,7 +139,7 @@ pub(crate) fn end_with<O: Sink, E: Sink>(
     err: &mut E,
     step: Step,
 ) -> Result<Report, Stop>
-    ensures ends { ComesAt step (top_of fault) → RunEndsAt step result }
+    ensures ends { ComesAt step (top_of fault) → GoesOn step → RunEndsAt step result }
     ensures late { IfErr result IsLateStop }
     ensures faults { IfOk result (λ report. EarlyOnlyIf ⊥ report.faults) }
     ensures status { IfOk result (λ report. HasStatus report.status report.faults) }

@@ -3,6 +3,7 @@ ghost use Rattle.std.specs.Prelude.{◌≡◌, ◌≢◌, ◌++◌, ◌∷◌, [
 ghost use Rattle.std.specs.List.{list_all};
 ghost use Rattle.report_texts.specs.Texts.{done_text};
 ghost use Rattle.rule_graph.specs.Rules.{rule_of};
+ghost use Rattle.scons_top.specs.Alone.{AreOne};
 ghost use Rattle.scons_top.specs.Faults.{IsEarly, IsEarlyStop, IsLate, IsLateStop, EarlyOnlyIf};
 ghost use Rattle.scons_base.specs.declared.ids.RuleId.{RuleId};
 ghost use Rattle.scons_top.specs.Endings.{ErrFinds, ErrEnds, ErrReports, AddsFew, AddsStopped, AddsUnwritten, Closes, ClosesWith};
@@ -85,6 +86,7 @@ pub(crate) fn show<O: Sink>(
 /// The report of a run that one fault ended: it is printed, and, where standard error refuses, so is that.
 pub(crate) fn ended<E: Sink>(alloc: Global, stop: Stop, step: Step, err: &mut E) -> Report
     ensures at { result.step ≡ step }
+    ensures one { AreOne result.faults }
     ensures alone { All (IsStopOr stop) result.faults }
     ensures told { result.status ≢ 3 → IsTold stop result.faults }
     ensures early { EarlyOnlyIf (IsEarlyStop stop) result.faults }
@@ -116,6 +118,7 @@ fn kept<E: Sink>(
     step: Step,
 ) -> Report
     ensures at { result.step ≡ step }
+    ensures one { AreOne result.faults }
     ensures alone { All (IsFaultOr fault) result.faults }
     ensures told { result.status ≢ 3 → Contains result.faults fault }
     ensures early { EarlyOnlyIf (IsEarly fault) result.faults }
@@ -139,6 +142,7 @@ fn keep<E: Sink>(
     text: Result<String, Memory>,
     faults: &mut Listing<Top>,
 ) -> Result<(), Memory>
+    ensures one { faults.old ≡ [] → AreOne faults.new }
     ensures alone { All (IsFaultOr fault) faults.old → All (IsFaultOr fault) faults.new }
     ensures holds { OnOk result (Contains faults.new fault) }
     ensures early { EarlyOnlyIf (IsEarly fault) faults.old → EarlyOnlyIf (IsEarly fault) faults.new }

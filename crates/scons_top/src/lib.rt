@@ -7,6 +7,7 @@
 mod below;
 mod build_step;
 mod clean_step;
+mod copied;
 mod dry_step;
 mod ending;
 mod load_step;

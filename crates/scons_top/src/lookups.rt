@@ -1,12 +1,17 @@
 //! What is looked up for the words of a run: the targets below directories, and the records of former builds.
-ghost use Rattle.std.specs.Prelude.{IfErr};
+ghost use Rattle.std.specs.Prelude.{◌≡◌, None, IfErr, IfOk, IsSome, OnOk, option_copied};
 ghost use Rattle.build_files.specs.Causes.{HasLookCause};
+ghost use Rattle.build_files.specs.Leftovers.{AtRest};
 ghost use Rattle.rule_graph.specs.Graphs.{RuleGraph};
 ghost use Rattle.scons_top.specs.Asked.{NamesNone, StopsFor};
 ghost use Rattle.scons_top.specs.Foreign.{StepByBytes};
+ghost use Rattle.scons_top.specs.Below.{KnowsTargets};
+ghost use Rattle.scons_top.specs.Finding.{HasLeft, KnowsRecords, record_in, Tells};
+ghost use Rattle.scons_top.specs.Naming.{IsLeftOver};
 ghost use Rattle.scons_top.specs.Requested.{KnowsNodes};
 ghost use Rattle.scons_top.specs.Stops.{WorldStep};
 ghost use Rattle.scons_top.specs.Watching.{Watches};
+ghost use Rattle.sign_store.specs.Ends.{image_in};
 
 use crate::below::Below;
 use crate::dry_step::view_of;
@@ -31,7 +36,9 @@ pub(crate) struct Lookups {
 
 impl Lookups {
     pub(crate) fn new(is_cleaning: bool) -> Lookups
-        ensures { (graph : RuleGraph) → KnowsNodes graph result.below }
+        ensures knows { (graph : RuleGraph) → KnowsNodes graph result.below }
+        ensures lists { (graph : RuleGraph) → KnowsTargets graph result.below }
+        ensures none { result.view ≡ None }
     {
         Lookups {
             below: Below::new(),
@@ -54,6 +61,9 @@ pub(crate) fn is_left_over<W: World>(
     ensures step { WorldStep (W.meaning.counts world.old) (W.meaning.counts world.new) result }
     ensures stops { IfErr result (StopsFor NamesNone) }
     ensures bytes { StepByBytes W.meaning world.old world.new result }
+    ensures records { KnowsRecords W.meaning world.old view.old → KnowsRecords W.meaning world.new view.new }
+    ensures left { KnowsRecords W.meaning world.old view.old → AtRest W.meaning world.new →
+        IfOk result (λ is. Tells (IsLeftOver graph.now (W.meaning.around world.new) (image_in (W.meaning.seen world.new)) path.now) is) }
 {
     if !is_copied(graph, path) {
         return Ok(false);
@@ -69,6 +79,8 @@ fn read_records<W: World>(alloc: Global, world: &mut W, view: &mut Option<View>)
     ensures step { WorldStep (W.meaning.counts world.old) (W.meaning.counts world.new) result }
     ensures stops { IfErr result (StopsFor NamesNone) }
     ensures bytes { StepByBytes W.meaning world.old world.new result }
+    ensures records { KnowsRecords W.meaning world.old view.old → KnowsRecords W.meaning world.new view.new }
+    ensures some { OnOk result (IsSome view.new) }
 {
     if view.is_some() {
         return Ok(());
@@ -90,8 +102,11 @@ fn has_leftover<W: World>(
     view: &Option<View>,
     path: &PathText,
 ) -> Result<bool, ListEnd>
+    requires { IsSome view.now }
     ensures watches { Watches W.meaning world.old world.new }
     ensures cause { HasLookCause (W.meaning.counts world.old) (W.meaning.counts world.new) result }
+    ensures left { KnowsRecords W.meaning world.old view.now → AtRest W.meaning world.new →
+        IfOk result (λ is. Tells (HasLeft graph.now (W.meaning.around world.new) (image_in (W.meaning.seen world.new)) path.now) is) }
 {
     match recorded(view, path) {
         Some(rec) => is_leftover(world, graph, rec),
@@ -100,7 +115,9 @@ fn has_leftover<W: World>(
 }
 
 /// The record of a path.
-fn recorded<'a>(view: &'a Option<View>, path: &PathText) -> Option<&'a Rec> {
+fn recorded<'a>(view: &'a Option<View>, path: &PathText) -> Option<&'a Rec>
+    ensures { option_copied result ≡ record_in view.now path.now }
+{
     match view {
         Some(view) => view.get(path),
         None => None,

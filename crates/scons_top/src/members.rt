@@ -2,16 +2,18 @@
 ghost use Rattle.std.specs.Prelude.{◌≡◌, ◌<◌, length, IfErr};
 ghost use Rattle.build_files.specs.Causes.{HasLookCause};
 ghost use Rattle.scons_top.specs.Asked.{IsNoPath, NamesNone, StopsFor};
+ghost use Rattle.scons_top.specs.Finding.{KnowsRecords};
 ghost use Rattle.scons_top.specs.Foreign.{StepByBytes, StopsByBytes};
 ghost use Rattle.scons_top.specs.Requested.{AreNodes};
 ghost use Rattle.scons_top.specs.Stops.{WorldStep, IsInside};
 ghost use Rattle.scons_top.specs.Watching.{Watches};
 ghost use Rattle.world_api.specs.Banks.{Banks};
 
+use crate::copied::has_copy;
 use crate::lookups::{Lookups, is_left_over};
 use crate::requests::{kind_of, path_in, unknown};
 use crate::stop::Stop;
-use build_files::{ListEnd, has_copy_rule};
+use build_files::ListEnd;
 use rule_graph::{BuildFault, Graph};
 use scons_base::{NodeId, PathText, Text};
 use sign_store::View;
@@ -34,6 +36,7 @@ pub(crate) fn check_members<W: World>(
     ensures stops { IfErr result (StopsFor (IsNoPath word.now)) }
     ensures bytes { StepByBytes W.meaning world.old world.new result }
     ensures below { lookups.new.below ≡ lookups.old.below }
+    ensures records { KnowsRecords W.meaning world.old lookups.old.view → KnowsRecords W.meaning world.new lookups.new.view }
 {
     if lookups.is_cleaning {
         return Ok(());
@@ -58,6 +61,7 @@ fn check_member<W: World>(
     ensures step { WorldStep (W.meaning.counts world.old) (W.meaning.counts world.new) result }
     ensures stops { IfErr result (StopsFor (IsNoPath word.now)) }
     ensures bytes { StepByBytes W.meaning world.old world.new result }
+    ensures records { KnowsRecords W.meaning world.old view.old → KnowsRecords W.meaning world.new view.new }
 {
     if graph.rule_of(member).is_some() {
         return Ok(());
@@ -81,6 +85,7 @@ fn is_there<W: World>(
     ensures step { WorldStep (W.meaning.counts world.old) (W.meaning.counts world.new) result }
     ensures stops { IfErr result (StopsFor NamesNone) }
     ensures bytes { StepByBytes W.meaning world.old world.new result }
+    ensures records { KnowsRecords W.meaning world.old view.old → KnowsRecords W.meaning world.new view.new }
 {
     if !stands(world, graph, path)? {
         return Ok(false);
@@ -105,7 +110,7 @@ fn is_made<W: World>(world: &mut W, graph: &Graph, path: &PathText) -> Result<bo
     ensures watches { Watches W.meaning world.old world.new }
     ensures cause { HasLookCause (W.meaning.counts world.old) (W.meaning.counts world.new) result }
 {
-    has_copy_rule(world, graph, path)
+    has_copy(world, graph, path)
 }
 
 /// The fault that a member of an alias isn't there. An alias may have a name that is no path.

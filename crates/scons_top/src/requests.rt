@@ -1,18 +1,25 @@
 //! What the words ask for.
-ghost use Rattle.std.specs.Prelude.{◌≡◌, [], false, map, IfErr, IfOk};
+ghost use Rattle.std.specs.Prelude.{◌≡◌, [], true, false, map, IfErr, IfOk};
 ghost use Rattle.build_files.specs.Causes.{HasLookCause};
-ghost use Rattle.scons_top.specs.Asked.{asked_by, asked_of, is_target, word_of, words_asked};
+ghost use Rattle.build_files.specs.Leftovers.{is_made};
+ghost use Rattle.node_tree.specs.Nodes.{AreApart};
+ghost use Rattle.scons_top.specs.Asked.{asked_by, asked_of, word_of, words_asked};
 ghost use Rattle.scons_top.specs.Asked.{IsReadAs, IsUnknownAs, IsUnknownOf, IsWord, IsWordIn, NamesNone, StopsFor};
+ghost use Rattle.scons_top.specs.Below.{has_below, KnowsTargets};
+ghost use Rattle.scons_top.specs.Finding.{AreOf, CountsOrAbove, Finds, FindsPath, FindsWord, FindsWords, FoundOrUnknown, IsLeftAlone, TellsRule};
 ghost use Rattle.scons_top.specs.Foreign.{StepByBytes, StepOnNone, StopsByBytes};
+ghost use Rattle.scons_top.specs.Naming.{HasGrown};
 ghost use Rattle.scons_top.specs.Requested.{AsksForNodes, AskForNodes, HasMore, KnowsNodes};
 ghost use Rattle.scons_top.specs.Stops.{WorldStep, InnerStep, IsInside};
 ghost use Rattle.scons_top.specs.Watching.{Watches};
 ghost use Rattle.world_api.specs.Banks.{Banks};
+ghost use Rattle.world_api.specs.Reads.{kind_of};
 
+use crate::copied::has_copy;
 use crate::lookups::{Lookups, is_left_over};
 use crate::members::check_members;
 use crate::stop::{OwnFault, Stop};
-use build_files::{ListEnd, has_copy_rule};
+use build_files::ListEnd;
 use rule_graph::{Graph, Wish};
 use scons_base::{Memory, NodeId, PathFault, PathText, Text, Texts};
 use scons_words::Words;
@@ -42,6 +49,7 @@ pub(crate) fn requests_of<W: World>(
     ensures step { WorldStep (W.meaning.counts world.old) (W.meaning.counts world.new) result }
     ensures stops { IfErr result (StopsFor (IsUnknownOf graph.new (asked_by graph.old words.now))) }
     ensures bytes { StepByBytes W.meaning world.old world.new result }
+    ensures names { FindsWords W.meaning graph.old (asked_by graph.old words.now) world.new result }
     ensures words { IfOk result (λ requests. words_asked requests.items ≡ asked_by graph.old words.now) }
     ensures nodes { IfOk result (λ requests. AskForNodes graph.new requests.items) }
 {
@@ -64,9 +72,11 @@ fn requests_for<W: World>(
     ensures step { WorldStep (W.meaning.counts world.old) (W.meaning.counts world.new) result }
     ensures stops { IfErr result (StopsFor (IsUnknownOf graph.new asked.now)) }
     ensures bytes { StepByBytes W.meaning world.old world.new result }
+    ensures names { FindsWords W.meaning graph.old asked.now world.new result }
     ensures words { IfOk result (λ requests. words_asked requests.items ≡ asked.now) }
     ensures nodes { IfOk result (λ requests. AskForNodes graph.new requests.items) }
 {
+    graph.laws();
     let mut requests = Vec::new(alloc);
     let mut lookups = Lookups::new(is_cleaning);
     for word in asked {
@@ -124,7 +134,12 @@ fn request_of<W: World>(
     ensures knows { KnowsNodes graph.old lookups.old.below → KnowsNodes graph.new lookups.new.below }
     ensures word { IfOk result (λ request. request.word ≡ word.now) }
     ensures nodes { KnowsNodes graph.old lookups.old.below → IfOk result (AsksForNodes graph.new) }
+    ensures apart { AreApart graph.old.nodes }
+    ensures grown { HasGrown graph.old graph.new }
+    ensures of { AreOf W.meaning graph.old world.old lookups.old → AreOf W.meaning graph.old world.new lookups.new }
+    ensures names { AreOf W.meaning graph.old world.old lookups.old → FindsWord W.meaning graph.old word.now world.new result }
 {
+    graph.laws();
     if let Some(members) = graph.alias(word.as_str()) {
         let nodes = lookups.below.members_of(alloc, graph, members)?;
         check_members(alloc, world, graph, lookups, word, nodes.as_slice())?;
@@ -157,6 +172,9 @@ fn file_request<W: World>(
     ensures knows { KnowsNodes graph.old lookups.old.below → KnowsNodes graph.new lookups.new.below }
     ensures word { IfOk result (λ request. request.word ≡ word.now) }
     ensures nodes { KnowsNodes graph.old lookups.old.below → IfOk result (AsksForNodes graph.new) }
+    ensures grown { HasGrown graph.old graph.new }
+    ensures of { AreOf W.meaning graph.old world.old lookups.old → AreOf W.meaning graph.old world.new lookups.new }
+    ensures finds { AreOf W.meaning graph.old world.old lookups.old → FindsPath W.meaning graph.old path.now world.new result }
 {
     match kind_of(world, path)? {
         Kind::File => plain_request(alloc, world, graph, lookups, word, path),
@@ -182,6 +200,10 @@ fn plain_request<W: World>(
     ensures knows { KnowsNodes graph.old lookups.old.below → KnowsNodes graph.new lookups.new.below }
     ensures word { IfOk result (λ request. request.word ≡ word.now) }
     ensures nodes { KnowsNodes graph.old lookups.old.below → IfOk result (AsksForNodes graph.new) }
+    ensures grown { HasGrown graph.old graph.new }
+    ensures of { AreOf W.meaning graph.old world.old lookups.old → AreOf W.meaning graph.old world.new lookups.new }
+    ensures finds { AreOf W.meaning graph.old world.old lookups.old →
+        Finds W.meaning (CountsOrAbove graph.old path.now) (IsLeftAlone graph.old path.now) world.new result }
 {
     if is_left_over(alloc, world, graph, &mut lookups.view, path)? {
         return absent_request(alloc, graph, lookups, word, path);
@@ -203,6 +225,9 @@ fn absent_request(
     ensures knows { KnowsNodes graph.now lookups.old.below → KnowsNodes graph.now lookups.new.below }
     ensures word { IfOk result (λ request. request.word ≡ word.now) }
     ensures nodes { KnowsNodes graph.now lookups.old.below → IfOk result (AsksForNodes graph.now) }
+    ensures lists { KnowsTargets graph.now lookups.old.below → KnowsTargets graph.now lookups.new.below }
+    ensures view { lookups.new.view ≡ lookups.old.view }
+    ensures finds { KnowsTargets graph.now lookups.old.below → FoundOrUnknown (has_below graph.now path.now ≡ true) (has_below graph.now path.now ≡ false) result }
 {
     let nodes = lookups.below.targets_below(alloc, graph, path)?;
     if nodes.is_empty() {
@@ -223,6 +248,7 @@ fn node_request(
     ensures stops { IfErr result (StopsFor NamesNone) }
     ensures bytes { StepOnNone result }
     ensures more { HasMore graph.old graph.new }
+    ensures grown { HasGrown graph.old graph.new }
     ensures word { IfOk result (λ request. request.word ≡ word.now) }
     ensures nodes { IfOk result (AsksForNodes graph.new) }
 {
@@ -279,17 +305,18 @@ pub(crate) fn unknown(word: &Text) -> Stop
 fn has_rule<W: World>(world: &mut W, graph: &Graph, path: &PathText) -> Result<bool, ListEnd>
     ensures watches { Watches W.meaning world.old world.new }
     ensures cause { HasLookCause (W.meaning.counts world.old) (W.meaning.counts world.new) result }
-    ensures none { IfOk result (λ has. has ≡ false → is_target graph.now path.now ≡ false) }
+    ensures none { IfOk result (λ has. has ≡ false → is_made graph.now path.now ≡ false) }
+    ensures rule { W.meaning.tells world.new → IfOk result (TellsRule graph.now (W.meaning.around world.new) path.now) }
 {
     if is_declared(graph, path) {
         return Ok(true);
     }
-    has_copy_rule(world, graph, path)
+    has_copy(world, graph, path)
 }
 
 /// Whether a path is a target of a declared rule.
-fn is_declared(graph: &Graph, path: &PathText) -> bool
-    ensures { result ≡ is_target graph.now path.now }
+pub(crate) fn is_declared(graph: &Graph, path: &PathText) -> bool
+    ensures { result ≡ is_made graph.now path.now }
 {
     match graph.find(path) {
         Some(node) => graph.rule_of(node).is_some(),
@@ -302,6 +329,7 @@ fn is_declared(graph: &Graph, path: &PathText) -> bool
 pub(crate) fn kind_of<W: World>(world: &mut W, path: &PathText) -> Result<Kind, ListEnd>
     ensures watches { Watches W.meaning world.old world.new }
     ensures cause { HasLookCause (W.meaning.counts world.old) (W.meaning.counts world.new) result }
+    ensures kind { W.meaning.tells world.new → IfOk result (λ kind. kind ≡ kind_of (W.meaning.around world.new) path.now) }
 {
     match world.kind(path) {
         Ok(kind) => Ok(kind),

@@ -1,11 +1,14 @@
 //! The steps of a run.
 ghost use Rattle.std.specs.Prelude.{◌≡◌, ◌≢◌, [], ℕ, Ok, Err, IfOk, IfErr, Contains, IsSome, IsTrue};
 ghost use Rattle.build_run.specs.Goings.{Passes};
+ghost use Rattle.scons_top.specs.Alone.{EndsAtOne};
 ghost use Rattle.scons_top.specs.Asked.{StopsUnknown, TellUnknown};
 ghost use Rattle.scons_top.specs.Builds.{Builds, RemembersAt, RunBuilds};
 ghost use Rattle.scons_top.specs.Causes.{RunCauses};
 ghost use Rattle.scons_top.specs.Cleaned.{Cleans, RunCleans};
-ghost use Rattle.scons_top.specs.Foreign.{RunByBytes, TellsBytes};
+ghost use Rattle.scons_top.specs.Complete.{RunCompletes};
+ghost use Rattle.scons_top.specs.Finding.{RunTellsWords, TellsWordsOf};
+ghost use Rattle.scons_top.specs.Foreign.{OpensByBytes, RunByBytes, TellsBytes};
 ghost use Rattle.report_texts.specs.Texts.{help_text};
 ghost use Rattle.scons_top.specs.Printed.{ReportPrints, RunPrints, ServesPrinting, WordsPrint};
 ghost use Rattle.scons_top.specs.Sinks.{PrintsUpTo};
@@ -60,10 +63,13 @@ pub fn scons<W: World, O: Sink, E: Sink>(
     ensures comes { (said : Words) → read words.now ≡ Ok said → ComesTo said result.step }
     ensures leaves { LeavesAt W.meaning result.step world.old world.new }
     ensures faults { AllComeAt result.step result.faults }
+    ensures alone { EndsAtOne result.step result.faults }
     ensures bytes { W.meaning.tells world.new → TellsBytes (W.meaning.seen world.old) result.step result.faults }
+    ensures opens { W.meaning.tells world.new → OpensByBytes (W.meaning.seen world.old) result }
     ensures refused { (why : WordsFault) → read words.now ≡ Err why → RefusesWords why world.old world.new out.old out.new result }
     ensures usage { (place : ℕ) (kind : UsageKind) → Contains result.faults (Top.Usage place kind) → read words.now ≡ Err (At place kind) }
     ensures unknown { (said : Words) → read words.now ≡ Ok said → TellUnknown said result.faults }
+    ensures asks { (said : Words) → read words.now ≡ Ok said → TellsWordsOf W.meaning said world.old world.new result }
     ensures load { (said : Words) → read words.now ≡ Ok said → IsSome said.load → world.new ≡ world.old }
     ensures cleans { (said : Words) → read words.now ≡ Ok said → Cleans W.meaning said world.old world.new result }
     ensures idle { W.meaning.tells world.new → (W.meaning.around world.new).running ≡ [] }
@@ -75,6 +81,7 @@ pub fn scons<W: World, O: Sink, E: Sink>(
     ensures remembers { (said : Words) → read words.now ≡ Ok said → RemembersAt W.meaning said result.step world.old world.new result }
     ensures status { HasStatus result.status result.faults }
     ensures causes { RunCauses W.meaning O.meaning E.meaning world.old out.old err.old world.new out.new err.new result }
+    ensures completes { (said : Words) → read words.now ≡ Ok said → RunCompletes W.meaning O.meaning E.meaning world.old out.old err.old world.new out.new err.new result }
     ensures prints { ReportPrints W.meaning O.meaning words.now world.old out.old world.new out.new result }
     ensures tells { TellsFaults E.meaning err.old err.new result }
 {
@@ -103,6 +110,7 @@ fn take_words<W: World, O: Sink, E: Sink>(
     ensures refused { (why : WordsFault) → read words.now ≡ Err why → IsRefused why at.new world.old world.new out.old out.new result }
     ensures usage { IfErr result (TellsUsage (read words.now)) }
     ensures unknown { (said : Words) → read words.now ≡ Ok said → IfErr result (StopsUnknown said) }
+    ensures asks { (said : Words) → read words.now ≡ Ok said → RunTellsWords W.meaning said at.new world.old world.new result }
     ensures past { IfOk result (λ report. at.new ≢ Step.Words) }
     ensures load { (said : Words) → read words.now ≡ Ok said → IsSome said.load → world.new ≡ world.old }
     ensures cleans { (said : Words) → read words.now ≡ Ok said → RunCleans W.meaning said at.new world.old world.new result }
@@ -146,6 +154,7 @@ pub(crate) fn run<W: World, O: Sink, E: Sink>(
     ensures ends { RunEndsAt at.new result }
     ensures bytes { RunByBytes W.meaning at.new world.old world.new result }
     ensures unknown { IfErr result (StopsUnknown words.now) }
+    ensures asks { RunTellsWords W.meaning words.now at.new world.old world.new result }
     ensures cleans { RunCleans W.meaning words.now at.new world.old world.new result }
     ensures passes { Passes W.meaning world.old world.new }
     ensures reports { Reports W.meaning O.meaning E.meaning world.old out.old err.old world.new out.new err.new result }

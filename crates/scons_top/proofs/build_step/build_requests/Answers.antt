@@ -3,7 +3,7 @@ use Rattle.scons_top.proofs.Serving.{all_told, none_left, serve_built, serve_tre
 use Rattle.scons_top.proofs.Telling.{stops_silent, tells_behind, tells_closed}
 use Rattle.build_run.specs.Causes.{Outside}
 use Rattle.std.specs.Prelude.{Ok}
-use Rattle.scons_top.proofs.Opening.{stops_unopened, building_ends}
+use Rattle.scons_top.proofs.Opening.{building_ends, memory_unopened, stops_unopened}
 use Rattle.scons_top.specs.declared.step.Step.TheVariants as step
 use Rattle.scons_top.proofs.Stepping.{ends_memory, ends_exit, reports_at, sink_at, building_at}
 use Rattle.scons_top.proofs.Stopping.{runs_looked, steps_begun, steps_here, steps_on}
@@ -171,7 +171,7 @@ pub returns-then-has_trees-clause-ends : goal.returns-then-has_trees-clause-ends
 returns-then-has_trees-clause-ends g c = ends_skipping step.Building c.tell_trees-report.result c.build-end.result.skipped c.tell_trees-report.ensures.ends
 
 pub returns-clause-ends : goal.returns-clause-ends
-returns-clause-ends g c = reports_at step.Building c.closed.result c.closed.ensures.at (c.closed.ensures.ends (building_at _))
+returns-clause-ends g c = reports_at step.Building c.closed.result c.closed.ensures.at (c.closed.ensures.ends (building_at _)) tt
 
 pub returns-in_err-nodes-clause-leaves : goal.returns-in_err-nodes-clause-leaves
 returns-in_err-nodes-clause-leaves g c = inl (looks_same g.W.Disk.meaning c.args.world.now)
@@ -182,10 +182,12 @@ returns-in_err-store-clause-leaves g c =
     inr (record { looked = c.args.world.now; looks = looks_same m c.args.world.now; begins = c.begin_store.ensures.begins })
 
 pub returns-in_err-nodes-clause-bytes : goal.returns-in_err-nodes-clause-bytes
-returns-in_err-nodes-clause-bytes g c = λ t. stops_unopened _ step.Store c.from_residual.result _ c.from_residual.ensures.1 (λ o. o) tt
+returns-in_err-nodes-clause-bytes g c = λ t. memory_unopened _ c.from_residual.result c.from_residual.ensures.1
 
 pub returns-in_err-store-clause-bytes : goal.returns-in_err-store-clause-bytes
-returns-in_err-store-clause-bytes g c = λ t. let r = c.from_residual-in_err-store in stops_unopened _ step.Store r.result _ r.ensures.1 (λ o. o) (c.in_err-store.ensures.bytes t)
+returns-in_err-store-clause-bytes g c = λ t.
+    let r = c.from_residual-in_err-store in
+    stops_unopened _ r.result _ r.ensures.1 (c.in_err-store.ensures.bytes t) (c.in_err-store.ensures.refused t)
 
 pub returns-in_err-say-clause-bytes : goal.returns-in_err-say-clause-bytes
 returns-in_err-say-clause-bytes g c = λ t. building_ends _ c.from_residual-in_err-say.result (c.in_ok-store.ensures.readable t) (returns-in_err-say-clause-ends g c)

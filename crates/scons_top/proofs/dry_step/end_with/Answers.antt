@@ -25,16 +25,16 @@ pub returns-in_err-push-clause-late : goal.returns-in_err-push-clause-late
 returns-in_err-push-clause-late g c = memory_late c.from_residual-in_err-push.result c.from_residual-in_err-push.ensures.1
 
 pub returns-in_err-text-clause-ends : goal.returns-in_err-text-clause-ends
-returns-in_err-text-clause-ends g c = λ h. ends_memory c.args.step c.from_residual.result c.from_residual.ensures.1
+returns-in_err-text-clause-ends g c = λ h on. ends_memory c.args.step c.from_residual.result c.from_residual.ensures.1
 
 pub returns-in_err-push-clause-ends : goal.returns-in_err-push-clause-ends
-returns-in_err-push-clause-ends g c = λ h. ends_memory c.args.step c.from_residual-in_err-push.result c.from_residual-in_err-push.ensures.1
+returns-in_err-push-clause-ends g c = λ h on. ends_memory c.args.step c.from_residual-in_err-push.result c.from_residual-in_err-push.ensures.1
 
 pub returns-clause-ends : goal.returns-clause-ends
-returns-clause-ends g c = λ h.
+returns-clause-ends g c = λ h on.
     let at = c.args.step in
     let first = one_found at c.args.fault _ _ c.empty-faults.ensures c.in_ok-push.ensures.ok h in
-    reports_at at c.closed.result c.closed.ensures.at (c.closed.ensures.ends (unprinted_at at c.print-printed.result _ _ c.add_unprinted-lost.result c.add_unprinted-lost.ensures first))
+    reports_at at c.closed.result c.closed.ensures.at (c.closed.ensures.ends (unprinted_at at c.print-printed.result _ _ c.add_unprinted-lost.result c.add_unprinted-lost.ensures first)) on
 
 pub returns-in_err-text-clause-tells : goal.returns-in_err-text-clause-tells
 returns-in_err-text-clause-tells g c = stops_silent g.E.Sink.meaning c.args.err.now _ c.from_residual.result c.from_residual.ensures.1

@@ -2,7 +2,7 @@ use Rattle.report_texts.specs.Texts.{building_text}
 use Rattle.scons_top.proofs.Serving.{serve_faulty, serve_listed, serve_unlisted, serve_wanting}
 use Rattle.scons_top.proofs.Telling.{early_none, none_told, stops_silent}
 use Rattle.scons_top.proofs.Serving.{serve_unopened}
-use Rattle.scons_top.proofs.Opening.{stops_unopened, store_unopened, listing_ends}
+use Rattle.scons_top.proofs.Opening.{listing_ends, memory_unopened, store_unopened}
 use Rattle.scons_top.specs.declared.step.Step.TheVariants as step
 use Rattle.scons_top.proofs.Stepping.{ends_memory, ends_store, ends_exit, store_at, sink_at, listing_at}
 use Rattle.std.proofs.Common.{◌∙◌, refl, subst, sym}
@@ -74,10 +74,10 @@ pub returns-in-Ok-clause-ends : goal.returns-in-Ok-clause-ends
 returns-in-Ok-clause-ends g c = c.tell_rules.ensures.ends
 
 pub returns-clause-ends : goal.returns-clause-ends
-returns-clause-ends g c = c.end_with.ensures.ends (listing_at _ _ _ _ c.in-Err-Fault.field-0-is c.in-Err-Fault.ensures.cause)
+returns-clause-ends g c = c.end_with.ensures.ends (listing_at _ _ _ _ c.in-Err-Fault.field-0-is c.in-Err-Fault.ensures.cause) tt
 
 pub returns-in_err-nodes-clause-bytes : goal.returns-in_err-nodes-clause-bytes
-returns-in_err-nodes-clause-bytes g c = λ t. stops_unopened _ step.Store c.from_residual.result _ c.from_residual.ensures.1 (λ o. o) tt
+returns-in_err-nodes-clause-bytes g c = λ t. memory_unopened _ c.from_residual.result c.from_residual.ensures.1
 
 pub returns-in_err-view-clause-bytes : goal.returns-in_err-view-clause-bytes
 returns-in_err-view-clause-bytes g c = λ t. let r = c.from_residual-in_err-view in store_unopened _ r.result _ r.ensures.1 (c.in_err-view.ensures.refused t)
@@ -89,7 +89,7 @@ pub returns-in-Ok-clause-bytes : goal.returns-in-Ok-clause-bytes
 returns-in-Ok-clause-bytes g c = λ t. listing_ends _ c.tell_rules.result (c.in_ok-view.ensures.readable (c.list_of.ensures.watches.looks.told.told t)) c.tell_rules.ensures.ends
 
 pub returns-in-Err-Memory-clause-bytes : goal.returns-in-Err-Memory-clause-bytes
-returns-in-Err-Memory-clause-bytes g c = λ t. record { stops = tt; readable = λ o. c.in_ok-view.ensures.readable (c.list_of.ensures.watches.looks.told.told t) }
+returns-in-Err-Memory-clause-bytes g c = λ t. record { stops = tt; readable = λ o. c.in_ok-view.ensures.readable (c.list_of.ensures.watches.looks.told.told t); opening = tt }
 
 pub returns-clause-bytes : goal.returns-clause-bytes
 returns-clause-bytes g c = λ t. listing_ends _ c.end_with.result (c.in_ok-view.ensures.readable (c.list_of.ensures.watches.looks.told.told t)) (returns-clause-ends g c)

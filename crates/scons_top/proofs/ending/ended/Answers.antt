@@ -8,6 +8,7 @@ use Rattle.scons_top.specs.Faults.{EarlyOnlyIf, IsEarly, IsEarlyStop, top_of_own
 use Rattle.scons_top.specs.Stops.{top_of}
 use Rattle.scons_top.specs.declared.report.Top.{Top}
 use Rattle.scons_top.specs.declared.stop.Stop.{Stop}
+use Rattle.scons_top.proofs.Alone.{one_none}
 use Rattle.scons_top.proofs.Reporting.{ends_wanting, reports_as}
 use Rattle.scons_top.proofs.ending.ended.Goals as goal
 
@@ -58,3 +59,6 @@ returns-in-Build-clause-tells g c = c.kept-in-Build.ensures.tells (build_lines s
 
 pub returns-in-Memory-clause-tells : goal.returns-in-Memory-clause-tells
 returns-in-Memory-clause-tells g c = tells_wanting g.E.Sink.meaning _ _ c.report.result c.report.ensures.memory (λ t. t)
+
+pub returns-in-Memory-clause-one : goal.returns-in-Memory-clause-one
+returns-in-Memory-clause-one g c = one_none _ _ c.report.ensures.faults c.empty.ensures

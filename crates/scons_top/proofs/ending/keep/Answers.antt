@@ -6,6 +6,7 @@ use Rattle.scons_top.specs.Told.{IsLine}
 use Rattle.scons_top.specs.Faults.{IsEarly}
 use Rattle.scons_top.specs.declared.report.Top.{Top}
 use Rattle.scons_top.specs.declared.report.Top.TheVariants as top
+use Rattle.scons_top.proofs.Alone.{one_none, one_pushed, one_refused}
 use Rattle.scons_top.proofs.Early.{added}
 use Rattle.scons_top.proofs.Causing.{on_err}
 use Rattle.scons_top.proofs.Reporting.{finds_dropped, finds_wanting, finds_printed, finds_refused, finds_refused_dropped}
@@ -63,3 +64,19 @@ pub returns-clause-shown : goal.returns-clause-shown
 returns-clause-shown g c = λ none kind tells.
     let line = subst (IsLine c.args.fault) (sym c.as_str.ensures.value) (line_here string_bytes c.args.fault c.args.text c.in_ok-text.text c.in_ok-text.was kind) in
     shown_refused g.E.Sink.meaning _ _ c.args.fault _ line _ _ none (c.in_ok-push-in-Err.ensures.ok ∙ ap (λ (fs : List Top). fs ++ top.OutFault ∷ []) c.in_ok-push.ensures.ok) c.in-Err.ensures.err tells
+
+pub returns-in_err-push-clause-one : goal.returns-in_err-push-clause-one
+returns-in_err-push-clause-one g c = λ none. one_none _ _ c.in_err-push.ensures.err none
+
+pub returns-in_err-text-clause-one : goal.returns-in_err-text-clause-one
+returns-in_err-text-clause-one g c = λ none. one_pushed _ c.args.fault _ c.in_ok-push.ensures.ok none
+
+pub returns-in-Ok-clause-one : goal.returns-in-Ok-clause-one
+returns-in-Ok-clause-one g c = λ none. one_pushed _ c.args.fault _ c.in_ok-push.ensures.ok none
+
+pub returns-in_err-push-in-Err-clause-one : goal.returns-in_err-push-in-Err-clause-one
+returns-in_err-push-in-Err-clause-one g c = λ none. one_pushed _ c.args.fault _ (c.in_err-push-in-Err.ensures.err ∙ c.in_ok-push.ensures.ok) none
+
+pub returns-clause-one : goal.returns-clause-one
+returns-clause-one g c = λ none.
+    one_refused _ c.args.fault _ (c.in_ok-push-in-Err.ensures.ok ∙ ap (λ (fs : List Top). fs ++ top.OutFault ∷ []) c.in_ok-push.ensures.ok) none

@@ -3,6 +3,7 @@ use Rattle.std.proofs.lemmas.Bool.{false≢true}
 use Rattle.scons_top.specs.declared.report.Top.{Top}
 use Rattle.scons_top.proofs.Stepping.{or_same, or_none}
 use Rattle.std.proofs.Common.{true, false, sym, subst, List, Contains}
+use Rattle.scons_top.proofs.Alone.{one_as}
 use Rattle.scons_top.proofs.Reporting.{reports_kept}
 use Rattle.scons_top.proofs.ending.kept.Goals as goal
 
@@ -30,3 +31,9 @@ returns-in-Ok-clause-tells g c = λ kind.
 
 pub returns-in-Err-clause-tells : goal.returns-in-Err-clause-tells
 returns-in-Err-clause-tells g c = λ kind. tells_wanting g.E.Sink.meaning _ _ c.report-in-Err.result c.report-in-Err.ensures.memory c.keep.ensures.told
+
+pub returns-in-Ok-clause-one : goal.returns-in-Ok-clause-one
+returns-in-Ok-clause-one g c = one_as _ _ c.report.ensures.faults (c.keep.ensures.one c.empty-faults.ensures)
+
+pub returns-in-Err-clause-one : goal.returns-in-Err-clause-one
+returns-in-Err-clause-one g c = one_as _ _ c.report-in-Err.ensures.faults (c.keep.ensures.one c.empty-faults.ensures)

@@ -1,6 +1,7 @@
 use Rattle.scons_top.proofs.Opening.{bytes_exit, bytes_list}
 use Rattle.scons_top.proofs.Asking.{asked_exit, asked_list, look_at}
 use Rattle.scons_top.specs.Asked.{NamesNone}
+use Rattle.scons_top.proofs.Finding.{records_on}
 use Rattle.scons_top.proofs.Watching.{watches_on}
 use Rattle.scons_top.proofs.Causing.{world_back, world_exit, look_exit}
 use Rattle.scons_top.proofs.lookups.is_left_over.Goals as goal
@@ -30,3 +31,7 @@ returns-in_err-read_records-clause-bytes g c = λ t. bytes_exit _ c.from_residua
 
 pub returns-in_err-has_leftover-clause-bytes : goal.returns-in_err-has_leftover-clause-bytes
 returns-in_err-has_leftover-clause-bytes g c = λ t. bytes_list _ c.from_residual-in_err-has_leftover.result _ c.from_residual-in_err-has_leftover.ensures.1
+
+pub returns-clause-records : goal.returns-clause-records
+returns-clause-records g c = λ known.
+    records_on g.W.Disk.meaning c.read_records.new.world c.has_leftover.new.world c.read_records.new.view c.has_leftover.ensures.watches.looks (c.read_records.ensures.records known)

@@ -19,6 +19,7 @@ pub loop-member-preserved : goal.loop-member-preserved
 loop-member-preserved g c = record {
   watches = watches_on _ _ _ _ c.loop-member.invariant.watches c.check_member.ensures.watches;
   same = c.in_ok-check_member.ensures.step ∙ c.loop-member.invariant.same;
+  records = λ known. c.check_member.ensures.records (c.loop-member.invariant.records known);
   below = c.loop-member.invariant.below;
 }
 
@@ -33,3 +34,6 @@ pub returns-in_err-check_member-clause-bytes : goal.returns-in_err-check_member-
 returns-in_err-check_member-clause-bytes g c =
     bytes_after g.W.Disk.meaning c.args.world.now c.loop-member.world c.check_member.new.world c.from_residual.result c.loop-member.invariant.watches.looks c.check_member.ensures.watches.looks.told.told
     (λ t. bytes_exit _ c.from_residual.result _ c.from_residual.ensures.1 (c.in_err-check_member.ensures.bytes t))
+
+pub returns-in_err-check_member-clause-records : goal.returns-in_err-check_member-clause-records
+returns-in_err-check_member-clause-records g c = λ known. c.check_member.ensures.records (c.loop-member.invariant.records known)

@@ -2,6 +2,7 @@ use Rattle.scons_top.proofs.Opening.{bytes_list, bytes_after, bytes_exit}
 use Rattle.scons_top.proofs.Asking.{asked_exit, asked_list, look_at}
 use Rattle.scons_top.specs.Asked.{NamesNone}
 use Rattle.std.proofs.Common.{◌∙◌}
+use Rattle.scons_top.proofs.Finding.{records_on}
 use Rattle.scons_top.proofs.Watching.{watches_on}
 use Rattle.scons_top.proofs.Causing.{world_back, world_exit, look_exit}
 use Rattle.scons_top.proofs.members.is_there.Goals as goal
@@ -37,3 +38,11 @@ returns-in_err-is_left_over-clause-bytes g c =
     let r = c.from_residual-in_err-is_left_over in
     bytes_after g.W.Disk.meaning c.args.world.now c.stands.new.world c.is_left_over.new.world r.result c.stands.ensures.watches.looks c.is_left_over.ensures.watches.looks.told.told
     (λ t. bytes_exit _ r.result _ r.ensures.1 (c.in_err-is_left_over.ensures.bytes t))
+
+pub returns-in_err-is_left_over-clause-records : goal.returns-in_err-is_left_over-clause-records
+returns-in_err-is_left_over-clause-records g c = λ known.
+    c.is_left_over.ensures.records (records_on g.W.Disk.meaning c.args.world.now c.stands.new.world c.args.view.now c.stands.ensures.watches.looks known)
+
+pub returns-clause-records : goal.returns-clause-records
+returns-clause-records g c = λ known.
+    c.is_left_over.ensures.records (records_on g.W.Disk.meaning c.args.world.now c.stands.new.world c.args.view.now c.stands.ensures.watches.looks known)

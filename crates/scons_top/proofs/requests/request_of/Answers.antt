@@ -1,9 +1,19 @@
 use Rattle.scons_top.proofs.Opening.{bytes_memory, bytes_exit, bytes_list, bytes_after}
 use Rattle.scons_top.proofs.Asking.{asked_exit, asked_list, asked_memory, look_at, stops_weaker, ends_weaker, none_as, read_as, target_spelled, unknown_path, unknown_alias, unknown_at}
-use Rattle.scons_top.specs.Asked.{is_target, IsNoPath, IsUnknownAs, IsWordIn, NamesNone}
+use Rattle.scons_top.specs.Asked.{IsNoPath, IsUnknownAs, IsWordIn, NamesNone}
 use Rattle.scons_top.specs.Requested.{AreNodes}
 use Rattle.scons_base.specs.Resolve.{spelling}
 use Rattle.rule_graph.specs.Aliases.{members_of}
+use Rattle.build_files.specs.Leftovers.{is_made}
+use Rattle.scons_base.specs.PathFaults.{is_path}
+use Rattle.scons_top.specs.Finding.{TellsRule}
+use Rattle.scons_top.specs.Below.{KnowsTargets}
+use Rattle.scons_top.specs.Asked.{IsReadAs}
+use Rattle.scons_top.specs.Naming.{NamesNothing, NamesSome}
+use Rattle.scons_top.specs.Naming.NamesSome.{alias}
+use Rattle.sign_store.specs.Ends.{image_in}
+use Rattle.scons_top.proofs.Finding.{alias_named, nameless, no_path_only, nothing_named, of_on, silent_list, spelled_word, silent_made, silent_memory, unknown_exit, word_made, word_path}
+use Rattle.scons_top.proofs.Grown.{grown_here}
 use Rattle.std.proofs.Common.{rules, ◌≡◌, ◌∙◌, false, ap, refl, subst, sym, None}
 use Rattle.std.specs.Option.{option_copied}
 use Rattle.scons_top.proofs.Watching.{watches_on}
@@ -102,7 +112,108 @@ returns-clause-stops g c =
     let none : members_of old.aliases word ≡ None = search rules in
     let path = c.in-Some-2.path in
     let read = read_as word path _ c.in-Some-2.is c.in_ok-path.ensures in
-    let target : is_target old (spelling old.top word) ≡ false =
+    let target : is_made old (spelling old.top word) ≡ false =
     target_spelled old word _ path _ read c.top.ensures c.in_ok-path-2.ensures.path (c.in_ok-has_rule.ensures.none c.if-branch.false) in
     let unknown = unknown_path old word word refl none (λ path. target) in
     ends_weaker (IsWordIn old new word) (IsUnknownAs new word) c.file_request.result (λ other is. unknown_at old new word other unknown is) c.file_request.ensures.stops
+
+pub returns-in_err-nodes-clause-names : goal.returns-in_err-nodes-clause-names
+returns-in_err-nodes-clause-names g c = λ h rest. silent_memory _ _ c.from_residual.result c.from_residual.ensures.1
+
+pub returns-in_err-check_members-clause-names : goal.returns-in_err-check_members-clause-names
+returns-in_err-check_members-clause-names g c = λ h rest.
+    let m = g.W.Disk.meaning in
+    let r = c.from_residual-in_err-check_members in
+    let word = c.args.word.now in
+    let around = m.around c.check_members.new.world in
+    let records = image_in (m.seen c.check_members.new.world) in
+    let some = alias_named c.args.graph.now word c.as_str.result.now c.in-Some.members.now c.as_str.ensures (sym c.alias.ensures.members ∙ ap option_copied c.in-Some.is) in
+    unknown_exit (NamesSome c.args.graph.now around records word) (NamesNothing c.args.graph.now around records word) r.result _ r.ensures.1
+    (no_path_only (NamesNothing c.args.graph.now around records word) word _ c.in_err-check_members.ensures.stops
+    (λ bare. nameless c.args.graph.now around records word c.in-Some.members.now some bare))
+
+pub returns-in-Some-clause-names : goal.returns-in-Some-clause-names
+returns-in-Some-clause-names g c = λ h rest.
+    let m = g.W.Disk.meaning in
+    let word = c.args.word.now in
+    let around = m.around c.check_members.new.world in
+    let records = image_in (m.seen c.check_members.new.world) in
+    let some = alias_named c.args.graph.now word c.as_str.result.now c.in-Some.members.now c.as_str.ensures (sym c.alias.ensures.members ∙ ap option_copied c.in-Some.is) in
+    silent_made (NamesSome c.args.graph.now around records word) (NamesNothing c.args.graph.now around records word) c.made.result c.made.ensures.stops (alias c.in-Some.members.now some)
+
+pub returns-in_default-2-clause-names : goal.returns-in_default-2-clause-names
+returns-in_default-2-clause-names g c = λ h rest told is.
+    let none : members_of c.args.graph.now.aliases c.args.word.now ≡ None = search rules in
+    let bare : is_path c.args.word.now ≡ false = search rules in
+    nothing_named c.args.graph.now _ _ c.args.word.now none bare
+
+pub returns-in_err-path-clause-names : goal.returns-in_err-path-clause-names
+returns-in_err-path-clause-names g c = λ h rest. let r = c.from_residual-in_err-path in silent_memory _ _ r.result r.ensures.1
+
+pub returns-in_err-has_rule-clause-names : goal.returns-in_err-has_rule-clause-names
+returns-in_err-has_rule-clause-names g c = λ h rest. let r = c.from_residual-in_err-has_rule in silent_list _ _ r.result _ r.ensures.1
+
+pub returns-then-branch-clause-names : goal.returns-then-branch-clause-names
+returns-then-branch-clause-names g c = λ h.
+    let m = g.W.Disk.meaning in
+    let graph = c.args.graph.now in
+    let word = c.args.word.now in
+    let read = subst (IsReadAs word) c.in-Some-2.is c.in_ok-path.ensures in
+    let p = c.in_ok-path-2.path in
+    word_made m graph word p c.has_rule.new.world c.node_request.result (spelled_word graph word _ _ p read.0 c.top.ensures c.in_ok-path-2.ensures.path) read.1
+    (λ t. subst (TellsRule graph (m.around c.has_rule.new.world) p) c.if-branch.true (c.in_ok-has_rule.ensures.rule t)) c.node_request.ensures.stops
+
+pub returns-clause-names : goal.returns-clause-names
+returns-clause-names g c = λ h.
+    let m = g.W.Disk.meaning in
+    let graph = c.args.graph.now in
+    let word = c.args.word.now in
+    let none : members_of graph.aliases word ≡ None = search rules in
+    let read = subst (IsReadAs word) c.in-Some-2.is c.in_ok-path.ensures in
+    let p = c.in_ok-path-2.path in
+    word_path m graph word p c.has_rule.new.world c.file_request.new.world c.file_request.result none (spelled_word graph word _ _ p read.0 c.top.ensures c.in_ok-path-2.ensures.path) read.1
+    c.file_request.ensures.watches.looks (λ t. subst (TellsRule graph (m.around c.has_rule.new.world) p) c.if-branch.false (c.in_ok-has_rule.ensures.rule t))
+    (c.file_request.ensures.finds (of_on m graph c.args.world.now c.has_rule.new.world c.args.lookups.now c.has_rule.ensures.watches.looks h))
+
+pub returns-in_err-nodes-clause-of : goal.returns-in_err-nodes-clause-of
+returns-in_err-nodes-clause-of g c = λ h. record { targets = c.members_of.ensures.lists h.targets; records = h.records }
+
+pub returns-in_err-check_members-clause-of : goal.returns-in_err-check_members-clause-of
+returns-in_err-check_members-clause-of g c = λ h. record {
+  targets = subst (KnowsTargets c.args.graph.now) (sym c.check_members.ensures.below) (c.members_of.ensures.lists h.targets);
+  records = c.check_members.ensures.records h.records;
+}
+
+pub returns-in-Some-clause-of : goal.returns-in-Some-clause-of
+returns-in-Some-clause-of g c = λ h. record {
+  targets = subst (KnowsTargets c.args.graph.now) (sym c.check_members.ensures.below) (c.members_of.ensures.lists h.targets);
+  records = c.check_members.ensures.records h.records;
+}
+
+pub returns-in_err-has_rule-clause-of : goal.returns-in_err-has_rule-clause-of
+returns-in_err-has_rule-clause-of g c = λ h. of_on g.W.Disk.meaning c.args.graph.now c.args.world.now c.has_rule.new.world c.args.lookups.now c.has_rule.ensures.watches.looks h
+
+pub returns-then-branch-clause-of : goal.returns-then-branch-clause-of
+returns-then-branch-clause-of g c = λ h. of_on g.W.Disk.meaning c.args.graph.now c.args.world.now c.has_rule.new.world c.args.lookups.now c.has_rule.ensures.watches.looks h
+
+pub returns-clause-of : goal.returns-clause-of
+returns-clause-of g c = λ h.
+    c.file_request.ensures.of (of_on g.W.Disk.meaning c.args.graph.now c.args.world.now c.has_rule.new.world c.args.lookups.now c.has_rule.ensures.watches.looks h)
+
+pub returns-in_err-nodes-clause-grown : goal.returns-in_err-nodes-clause-grown
+returns-in_err-nodes-clause-grown g c = grown_here c.args.graph.now
+
+pub returns-in_err-check_members-clause-grown : goal.returns-in_err-check_members-clause-grown
+returns-in_err-check_members-clause-grown g c = grown_here c.args.graph.now
+
+pub returns-in-Some-clause-grown : goal.returns-in-Some-clause-grown
+returns-in-Some-clause-grown g c = grown_here c.args.graph.now
+
+pub returns-in_default-2-clause-grown : goal.returns-in_default-2-clause-grown
+returns-in_default-2-clause-grown g c = grown_here c.args.graph.now
+
+pub returns-in_err-path-clause-grown : goal.returns-in_err-path-clause-grown
+returns-in_err-path-clause-grown g c = grown_here c.args.graph.now
+
+pub returns-in_err-has_rule-clause-grown : goal.returns-in_err-has_rule-clause-grown
+returns-in_err-has_rule-clause-grown g c = grown_here c.args.graph.now

@@ -1,9 +1,17 @@
 use Rattle.scons_top.proofs.Opening.{bytes_after, bytes_exit, bytes_memory}
 use Rattle.scons_top.proofs.Asking.{asked_exit, asked_memory, stops_weaker, unknown_of}
 use Rattle.scons_top.specs.Asked.{IsUnknownAs, IsUnknownOf}
-use Rattle.std.proofs.Common.{◌∙◌}
+use Rattle.std.proofs.Common.{◌∙◌, ap, refl, subst, sym}
+use Rattle.std.proofs.lemmas.List.Elements.{All-nil}
+use Rattle.sign_store.specs.Ends.{image_in}
+use Rattle.scons_top.specs.Asked.{words_asked}
+use Rattle.scons_top.specs.Naming.{NamesSome}
+use Rattle.scons_top.specs.Requested.{AskForNodes, AsksForNodes}
+use Rattle.build_means.specs.Rules.{IsReading}
+use Rattle.scons_top.proofs.Finding.{of_here, of_nothing, of_there, told_word, words_all, words_memory, words_more, words_stop}
+use Rattle.scons_top.proofs.Grown.{grown_here, grown_on}
 use Rattle.scons_top.proofs.Requesting.{asks_pushed, words_pushed}
-use Rattle.scons_top.proofs.Watching.{watches_on}
+use Rattle.scons_top.proofs.Watching.{watches_on, watches_same}
 use Rattle.scons_top.proofs.Causing.{world_back, world_exit, world_memory}
 use Rattle.scons_top.proofs.requests.requests_for.Goals as goal
 
@@ -13,16 +21,41 @@ returns-in_err-request_of-clause-watches g c = watches_on _ _ _ _ c.loop-word.in
 pub returns-in_err-push-clause-watches : goal.returns-in_err-push-clause-watches
 returns-in_err-push-clause-watches g c = watches_on _ _ _ _ c.loop-word.invariant.watches c.request_of.ensures.watches
 
+pub loop-word-init : goal.loop-word-init
+loop-word-init g c =
+    let m = g.W.Disk.meaning in
+    let graph = c.args.graph.now in
+    let world = c.args.world.now in
+    let none = c.new-requests.ensures.items in
+    record {
+      watches = watches_same m world;
+      same = refl;
+      knows = c.new-lookups.ensures.knows graph;
+      nodes = subst (AskForNodes graph) (sym none) (All-nil (AsksForNodes graph));
+      grown = grown_here graph;
+      of = of_nothing m graph world c.new-lookups.result (c.new-lookups.ensures.lists graph) c.new-lookups.ensures.none;
+      names = λ rest. All-nil (NamesSome graph (m.around world) (image_in (m.seen world)));
+      words = ap words_asked none;
+    }
+
 pub loop-word-preserved : goal.loop-word-preserved
-loop-word-preserved g c = record {
-  watches = watches_on _ _ _ _ c.loop-word.invariant.watches c.request_of.ensures.watches;
-  same = c.in_ok-request_of.ensures.step ∙ c.loop-word.invariant.same;
-  knows = c.request_of.ensures.knows c.loop-word.invariant.knows;
-  nodes = asks_pushed c.loop-word.graph c.request_of.new.graph _ _ _ c.request_of.ensures.more c.in_ok-push.ensures.items c.loop-word.invariant.nodes
-      (c.in_ok-request_of.ensures.nodes c.loop-word.invariant.knows);
-  words = words_pushed c.loop-word.requests.items _ _ c.args.asked.now c.loop-word.word-index c.word-item.result c.loop-word-test.true c.word-item.is
-      c.in_ok-push.ensures.items c.in_ok-request_of.ensures.word c.loop-word.invariant.words;
-}
+loop-word-preserved g c =
+    let reading : IsReading c.args.graph.now = record { apart = c.laws.ensures.apart; single = c.laws.ensures.single; named = c.laws.ensures.named } in
+    record {
+      watches = watches_on _ _ _ _ c.loop-word.invariant.watches c.request_of.ensures.watches;
+      same = c.in_ok-request_of.ensures.step ∙ c.loop-word.invariant.same;
+      knows = c.request_of.ensures.knows c.loop-word.invariant.knows;
+      nodes = asks_pushed c.loop-word.graph c.request_of.new.graph _ _ _ c.request_of.ensures.more c.in_ok-push.ensures.items c.loop-word.invariant.nodes
+          (c.in_ok-request_of.ensures.nodes c.loop-word.invariant.knows);
+      grown = grown_on c.args.graph.now c.loop-word.graph c.request_of.new.graph c.loop-word.invariant.grown c.request_of.ensures.grown;
+      of = of_here g.W.Disk.meaning c.args.graph.now c.loop-word.graph c.loop-word.invariant.grown reading c.request_of.ensures.apart c.request_of.new.world c.request_of.new.lookups
+          (c.request_of.ensures.of (of_there g.W.Disk.meaning c.args.graph.now c.loop-word.graph c.loop-word.invariant.grown reading c.request_of.ensures.apart c.loop-word.world c.loop-word.lookups c.loop-word.invariant.of));
+      names = words_more g.W.Disk.meaning c.args.graph.now c.loop-word.graph c.loop-word.invariant.grown reading c.request_of.ensures.apart c.loop-word.world c.request_of.new.world
+          c.args.asked.now c.loop-word.word-index c.word-item.result c.request_of.ensures.watches.looks c.loop-word-test.true c.word-item.is c.loop-word.invariant.names
+          (c.in_ok-request_of.ensures.names (of_there g.W.Disk.meaning c.args.graph.now c.loop-word.graph c.loop-word.invariant.grown reading c.request_of.ensures.apart c.loop-word.world c.loop-word.lookups c.loop-word.invariant.of));
+      words = words_pushed c.loop-word.requests.items _ _ c.args.asked.now c.loop-word.word-index c.word-item.result c.loop-word-test.true c.word-item.is
+          c.in_ok-push.ensures.items c.in_ok-request_of.ensures.word c.loop-word.invariant.words;
+    }
 
 pub returns-in_err-request_of-clause-step : goal.returns-in_err-request_of-clause-step
 returns-in_err-request_of-clause-step g c = world_back _ _ _ c.from_residual.result c.loop-word.invariant.same (world_exit _ _ c.from_residual.result _ c.from_residual.ensures.1 c.in_err-request_of.ensures.step)
@@ -50,3 +83,22 @@ returns-in_err-request_of-clause-bytes g c =
 
 pub returns-in_err-push-clause-bytes : goal.returns-in_err-push-clause-bytes
 returns-in_err-push-clause-bytes g c = λ t. bytes_memory _ c.from_residual-in_err-push.result c.from_residual-in_err-push.ensures.1
+
+pub returns-in_err-request_of-clause-names : goal.returns-in_err-request_of-clause-names
+returns-in_err-request_of-clause-names g c =
+    let m = g.W.Disk.meaning in
+    let old = c.args.graph.now in
+    let graph = c.loop-word.graph in
+    let before = c.loop-word.invariant in
+    let apart = c.request_of.ensures.apart in
+    let reading : IsReading old = record { apart = c.laws.ensures.apart; single = c.laws.ensures.single; named = c.laws.ensures.named } in
+    words_stop m old graph before.grown reading apart c.loop-word.world c.request_of.new.world c.args.asked.now c.loop-word.word-index c.word-item.result
+    c.request_of.ensures.watches.looks c.loop-word-test.true c.word-item.is before.names c.from_residual.result _ c.from_residual.ensures.1
+    (c.in_err-request_of.ensures.names (of_there m old graph before.grown reading apart c.loop-word.world c.loop-word.lookups before.of))
+    (told_word c.request_of.new.graph c.word-item.result _ c.in_err-request_of.ensures.stops)
+
+pub returns-in_err-push-clause-names : goal.returns-in_err-push-clause-names
+returns-in_err-push-clause-names g c = words_memory g.W.Disk.meaning c.args.graph.now c.args.asked.now c.request_of.new.world c.from_residual-in_err-push.result c.from_residual-in_err-push.ensures.1
+
+pub returns-clause-names : goal.returns-clause-names
+returns-clause-names g c = words_all g.W.Disk.meaning c.args.graph.now c.args.asked.now c.loop-word.word-index c.loop-word.world c.loop-word-test.false c.loop-word.invariant.names

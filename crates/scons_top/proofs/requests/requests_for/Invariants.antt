@@ -1,4 +1,9 @@
 use Rattle.std.proofs.Common.{◌≡◌, take}
+use Rattle.std.specs.Prelude.{All}
+use Rattle.sign_store.specs.Ends.{image_in}
+use Rattle.build_files.specs.Leftovers.{AtRest}
+use Rattle.scons_top.specs.Finding.{AreOf}
+use Rattle.scons_top.specs.Naming.{HasGrown, NamesSome}
 use Rattle.scons_top.specs.Asked.{words_asked}
 use Rattle.scons_top.specs.Requested.{AskForNodes, KnowsNodes}
 use Rattle.scons_top.specs.Watching.{Watches}
@@ -10,5 +15,8 @@ invariant-loop-word g l = record {
   same : g.W.Disk.meaning.counts l.world ≡ g.W.Disk.meaning.counts l.fn.world;
   knows : KnowsNodes l.graph l.lookups.below;
   nodes : AskForNodes l.graph l.requests.items;
+  grown : HasGrown l.fn.graph l.graph;
+  of : AreOf g.W.Disk.meaning l.fn.graph l.world l.lookups;
+  names : AtRest g.W.Disk.meaning l.world → All (NamesSome l.fn.graph (g.W.Disk.meaning.around l.world) (image_in (g.W.Disk.meaning.seen l.world))) (take l.word-index l.asked);
   words : words_asked l.requests.items ≡ take l.word-index l.asked;
 }

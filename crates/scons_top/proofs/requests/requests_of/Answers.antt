@@ -2,6 +2,8 @@ use Rattle.scons_top.proofs.Opening.{bytes_memory}
 use Rattle.scons_top.proofs.Asking.{asked_memory}
 use Rattle.std.proofs.Common.{rules, ◌≡◌, ℕ, List, IfErr, refl, subst}
 use Rattle.scons_top.specs.Asked.{asked_by, IsUnknownOf, StopsFor}
+use Rattle.scons_top.specs.Finding.{FindsWords}
+use Rattle.scons_top.proofs.Finding.{words_memory}
 use Rattle.scons_top.proofs.Causing.{world_memory}
 use Rattle.scons_top.proofs.requests.requests_of.Goals as goal
 
@@ -28,3 +30,15 @@ returns-clause-stops g c =
     let asked = asked_by c.args.graph.now c.args.words.now in
     let same : c.as_slice-2.result.now ≡ asked = search rules in
     subst (λ (words : List (List ℕ)). IfErr c.requests_for.result (StopsFor (IsUnknownOf c.requests_for.new.graph words))) same c.requests_for.ensures.stops
+
+pub returns-in_err-asked-in-empty-clause-names : goal.returns-in_err-asked-in-empty-clause-names
+returns-in_err-asked-in-empty-clause-names g c = words_memory g.W.Disk.meaning _ _ _ c.from_residual.result c.from_residual.ensures.1
+
+pub returns-in_err-asked-in_default-clause-names : goal.returns-in_err-asked-in_default-clause-names
+returns-in_err-asked-in_default-clause-names g c = let r = c.from_residual-in_err-asked-in_default in words_memory g.W.Disk.meaning _ _ _ r.result r.ensures.1
+
+pub returns-clause-names : goal.returns-clause-names
+returns-clause-names g c =
+    let asked = asked_by c.args.graph.now c.args.words.now in
+    let same : c.as_slice-2.result.now ≡ asked = search rules in
+    subst (λ (words : List (List ℕ)). FindsWords g.W.Disk.meaning c.args.graph.now words c.requests_for.new.world c.requests_for.result) same c.requests_for.ensures.names

@@ -1,6 +1,7 @@
 use Rattle.scons_top.proofs.Serving.{run_asked, run_help, run_read, run_served}
 use Rattle.scons_top.proofs.Telling.{none_told, stops_silent}
-use Rattle.scons_top.proofs.Opening.{reading_ends, help_ends, run_after, stops_unopened}
+use Rattle.scons_top.proofs.Wording.{reading_before, run_behind, run_refused, run_untold}
+use Rattle.scons_top.proofs.Opening.{reading_ends, help_ends, asked_unopened, run_after}
 use Rattle.scons_top.proofs.Clearing.{not_reading, cleans_after}
 use Rattle.scons_top.specs.declared.step.Step.TheVariants as step
 use Rattle.scons_top.proofs.Watching.{watches_on}
@@ -147,7 +148,7 @@ pub returns-in_err-requests-clause-bytes : goal.returns-in_err-requests-clause-b
 returns-in_err-requests-clause-bytes g c =
     let r = c.from_residual-in_err-requests in
     run_after g.W.Disk.meaning step.Requests c.args.world.now c.read.new.world c.requests_of.new.world r.result c.read.ensures.watches.looks c.requests_of.ensures.watches.looks.told.told
-    (λ t. stops_unopened _ step.Requests r.result _ r.ensures.1 (λ o. o) (c.in_err-requests.ensures.bytes t))
+    (λ t. asked_unopened _ r.result _ r.ensures.1 (c.in_err-requests.ensures.bytes t))
 
 pub returns-clause-bytes : goal.returns-clause-bytes
 returns-clause-bytes g c =
@@ -199,3 +200,24 @@ returns-in_err-requests-clause-tells g c = stops_silent g.E.Sink.meaning c.args.
 
 pub returns-then-words-clause-tells : goal.returns-then-words-clause-tells
 returns-then-words-clause-tells g c = none_told g.E.Sink.meaning c.args.err.now c.help.result c.help.ensures.faults
+
+pub returns-in_err-graph-clause-asks : goal.returns-in_err-graph-clause-asks
+returns-in_err-graph-clause-asks g c =
+    run_untold g.W.Disk.meaning c.args.words.now c.read.new.at c.args.world.now c.read.new.world c.from_residual.result (λ word. reading_else _ word c.read.ensures.reading)
+    (reading_before _ c.read.ensures.reading) (returns-in_err-graph-clause-ends g c)
+
+pub returns-then-words-clause-asks : goal.returns-then-words-clause-asks
+returns-then-words-clause-asks g c =
+    run_untold g.W.Disk.meaning c.args.words.now step.Help c.args.world.now c.read.new.world c.help.result (λ word h. h) (λ behind. behind) c.help.ensures.ends
+
+pub returns-in_err-requests-clause-asks : goal.returns-in_err-requests-clause-asks
+returns-in_err-requests-clause-asks g c =
+    let r = c.from_residual-in_err-requests in
+    run_refused g.W.Disk.meaning c.args.words.now c.in_ok-graph.graph c.args.world.now c.requests_of.new.world
+    (looks_joined _ _ _ _ c.read.ensures.watches.looks c.requests_of.ensures.watches.looks) c.requires.idle r.result _ r.ensures.1 c.in_err-requests.ensures.names
+
+pub returns-clause-asks : goal.returns-clause-asks
+returns-clause-asks g c =
+    run_behind g.W.Disk.meaning c.args.words.now c.in_ok-graph.graph c.args.world.now c.requests_of.new.world
+    (looks_joined _ _ _ _ c.read.ensures.watches.looks c.requests_of.ensures.watches.looks) c.requires.idle c.serve.new.at c.serve.new.world c.serve.result
+    c.serve.ensures.passes.told.told c.in_ok-requests.ensures.names (λ word. serves_else c.args.words.now _ word c.serve.ensures.serves) c.serve.ensures.ends

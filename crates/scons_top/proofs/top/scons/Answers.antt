@@ -1,11 +1,14 @@
 use Rattle.std.specs.Prelude.{Ok}
 use Rattle.scons_top.proofs.Serving.{cut_ended, run_at, run_ended}
 use Rattle.scons_top.proofs.Telling.{tells_stopped}
-use Rattle.scons_top.proofs.Opening.{report_bytes, stopped_bytes}
+use Rattle.scons_top.proofs.Completing.{completes}
+use Rattle.scons_top.proofs.Wording.{report_words, stop_words}
+use Rattle.scons_top.proofs.Opening.{reported_bytes, stopped_bytes}
+use Rattle.scons_top.proofs.Refusing.{report_opens, stop_opens}
 use Rattle.scons_top.proofs.Clearing.{cleans_report, cleans_stop}
 use Rattle.scons_top.proofs.Asking.{none_told, told_alone}
 use Rattle.scons_top.proofs.Keeping.{remembers_at}
-use Rattle.scons_top.proofs.Stepping.{comes_as, leaves_as, faults_as, alone_at, refuses, reports_refused, usage_told, usage_reported}
+use Rattle.scons_top.proofs.Stepping.{alone_as, comes_as, leaves_as, faults_as, alone_at, not_refused, one_at, refuses, reports_refused, usage_told, usage_reported}
 use Rattle.std.proofs.Common.{inl, inr}
 use Rattle.scons_top.proofs.top.scons.Goals as goal
 
@@ -67,7 +70,7 @@ returns-in-Err-clause-cleans g c = λ said is.
     cleans_stop g.W.Disk.meaning said c.take_words.new.at c.args.world.now c.take_words.new.world c.in-Err.stop c.ended.result c.ended.ensures.at c.ended.ensures.fails (c.in-Err.ensures.cleans said is)
 
 pub returns-in-Ok-clause-bytes : goal.returns-in-Ok-clause-bytes
-returns-in-Ok-clause-bytes g c = λ t. report_bytes _ _ c.in-Ok.report c.in-Ok.ensures.ends.ends (c.in-Ok.ensures.bytes t)
+returns-in-Ok-clause-bytes g c = λ t. reported_bytes _ _ c.in-Ok.report c.in-Ok.ensures.ends.ends (c.in-Ok.ensures.bytes t)
 
 pub returns-in-Err-clause-bytes : goal.returns-in-Err-clause-bytes
 returns-in-Err-clause-bytes g c = λ t. stopped_bytes _ _ _ c.ended.result c.ended.ensures.at c.ended.ensures.alone (c.in-Err.ensures.bytes t)
@@ -95,3 +98,31 @@ returns-in-Err-clause-prints g c = λ said is.
 
 pub returns-in-Err-clause-tells : goal.returns-in-Err-clause-tells
 returns-in-Err-clause-tells g c = tells_stopped g.E.Sink.meaning _ _ c.ended.new.err c.ended.result c.in-Err.ensures.tells c.ended.ensures.tells
+
+pub returns-in-Ok-clause-alone : goal.returns-in-Ok-clause-alone
+returns-in-Ok-clause-alone g c = alone_as _ _ _ c.in-Ok.ensures.ends.ends c.in-Ok.ensures.ends.alone
+
+pub returns-in-Err-clause-alone : goal.returns-in-Err-clause-alone
+returns-in-Err-clause-alone g c = one_at _ _ c.ended.ensures.one
+
+pub returns-in-Ok-clause-opens : goal.returns-in-Ok-clause-opens
+returns-in-Ok-clause-opens g c = λ t. report_opens _ _ c.in-Ok.report c.in-Ok.ensures.ends.ends (c.in-Ok.ensures.bytes t)
+
+pub returns-in-Err-clause-opens : goal.returns-in-Err-clause-opens
+returns-in-Err-clause-opens g c = λ t. stop_opens _ _ _ c.ended.result c.ended.ensures.at c.ended.ensures.alone c.ended.ensures.told (c.in-Err.ensures.bytes t)
+
+pub returns-in-Ok-clause-completes : goal.returns-in-Ok-clause-completes
+returns-in-Ok-clause-completes g c = λ said is.
+    completes _ _ c.in-Ok.report (λ place kind has. not_refused _ said _ is (returns-in-Ok-clause-usage g c place kind has)) (returns-in-Ok-clause-faults g c)
+    c.in-Ok.ensures.reports c.in-Ok.ensures.status
+
+pub returns-in-Err-clause-completes : goal.returns-in-Err-clause-completes
+returns-in-Err-clause-completes g c = λ said is.
+    completes _ _ c.ended.result (λ place kind has. not_refused _ said _ is (returns-in-Err-clause-usage g c place kind has)) (returns-in-Err-clause-faults g c)
+    (returns-in-Err-clause-causes g c) c.ended.ensures.status
+
+pub returns-in-Ok-clause-asks : goal.returns-in-Ok-clause-asks
+returns-in-Ok-clause-asks g c = λ said is t. report_words said _ _ _ c.in-Ok.report c.in-Ok.ensures.ends.ends c.in-Ok.ensures.late (c.in-Ok.ensures.asks said is t)
+
+pub returns-in-Err-clause-asks : goal.returns-in-Err-clause-asks
+returns-in-Err-clause-asks g c = λ said is t. stop_words said _ _ _ _ c.ended.result c.ended.ensures.at c.ended.ensures.alone (c.in-Err.ensures.asks said is t)

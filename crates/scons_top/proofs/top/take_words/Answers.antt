@@ -12,6 +12,8 @@ use Rattle.world_api.proofs.Looking.{looks_same}
 use Rattle.scons_words.specs.Readings.{read}
 use Rattle.scons_words.specs.declared.words.Words.{Words}
 use Rattle.scons_top.specs.Builds.{RunBuilds}
+use Rattle.scons_top.specs.Finding.{RunTellsWords}
+use Rattle.scons_top.proofs.Wording.{run_untold}
 use Rattle.scons_top.proofs.Building.{no_load, stops, words_said}
 use Rattle.scons_top.proofs.Causing.{exit_report, words_stop}
 use Rattle.scons_top.proofs.top.take_words.Goals as goal
@@ -149,3 +151,16 @@ returns-in_err-words-clause-tells g c = stops_silent g.E.Sink.meaning c.args.err
 
 pub returns-in-Some-clause-tells : goal.returns-in-Some-clause-tells
 returns-in-Some-clause-tells g c = none_told g.E.Sink.meaning c.args.err.now c.load.result c.load.ensures.faults
+
+pub returns-in_err-words-clause-asks : goal.returns-in_err-words-clause-asks
+returns-in_err-words-clause-asks g c = λ said is.
+    run_untold g.W.Disk.meaning said step.Words c.args.world.now c.args.world.now c.from_residual.result (λ word h. h) (λ behind. behind) (returns-in_err-words-clause-ends g c)
+
+pub returns-in-Some-clause-asks : goal.returns-in-Some-clause-asks
+returns-in-Some-clause-asks g c = λ said is.
+    run_untold g.W.Disk.meaning said step.Load c.args.world.now c.args.world.now c.load.result (λ word h. h) (λ behind. behind) c.load.ensures.ends
+
+pub returns-clause-asks : goal.returns-clause-asks
+returns-clause-asks g c = λ said is.
+    subst (λ (s : Words). RunTellsWords g.W.Disk.meaning s c.run.new.at c.args.world.now c.run.new.world c.run.result)
+    (words_said (read c.args.words.now) c.in_ok-words.words said c.in_ok-words.ensures.ok is) c.run.ensures.asks

@@ -28,7 +28,7 @@ pub returns-in_err-tell_requests-clause-ends : goal.returns-in_err-tell_requests
 returns-in_err-tell_requests-clause-ends g c = let r = c.from_residual in ends_exit step.Building r.result _ r.ensures.1 (sink_at step.Building _ _ _ c.in_err-tell_requests.ensures.step)
 
 pub returns-in_default-clause-ends : goal.returns-in_default-clause-ends
-returns-in_default-clause-ends g c = c.end_with.ensures.ends (building_fault _)
+returns-in_default-clause-ends g c = c.end_with.ensures.ends (building_fault _) tt
 
 pub returns-in_err-tell_requests-clause-tells : goal.returns-in_err-tell_requests-clause-tells
 returns-in_err-tell_requests-clause-tells g c = stops_silent g.E.Sink.meaning c.args.err.now _ c.from_residual.result c.from_residual.ensures.1

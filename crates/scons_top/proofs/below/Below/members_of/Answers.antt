@@ -1,5 +1,6 @@
 use Rattle.std.proofs.Common.{sym, subst, Vec, Global}
 use Rattle.scons_base.specs.declared.ids.NodeId.{NodeId}
+use Rattle.scons_top.specs.Below.{KnowsTargets}
 use Rattle.scons_top.specs.Requested.{AreNodes, KnowsNodes}
 use Rattle.scons_top.proofs.Requesting.{below_at}
 use Rattle.scons_top.proofs.below.Below.members_of.Goals as goal
@@ -17,9 +18,11 @@ loop-member-preserved c =
       | then-is_new+in_ok-add_member w ↦ record {
         knows = λ known. subst (KnowsNodes g) (sym w.self-is) (w.add_member.ensures.knows (before.knows known));
         nodes = λ known. subst are (sym w.nodes-is) (w.add_member.ensures.nodes (before.knows known) (before.nodes known));
+        lists = λ known. subst (KnowsTargets g) (sym w.self-is) (w.add_member.ensures.lists (before.lists known));
       }
       | else-is_new w ↦ record {
         knows = λ known. subst (KnowsNodes g) (sym w.self-is) (before.knows known);
         nodes = λ known. subst are (sym w.nodes-is) (before.nodes known);
+        lists = λ known. subst (KnowsTargets g) (sym w.self-is) (before.lists known);
       }
     ]

@@ -1,3 +1,4 @@
+use Rattle.scons_top.specs.Below.{KnowsTargets}
 use Rattle.scons_top.specs.Requested.{AreNodes, KnowsNodes}
 use Rattle.scons_top.proofs.below.Below.members_of.Given as goal
 
@@ -5,4 +6,5 @@ abbrev pub invariant-loop-member : goal.invariant-loop-member
 invariant-loop-member l = record {
   knows : KnowsNodes l.graph l.fn.self → KnowsNodes l.graph l.self;
   nodes : KnowsNodes l.graph l.fn.self → AreNodes l.graph l.nodes.items;
+  lists : KnowsTargets l.graph l.fn.self → KnowsTargets l.graph l.self;
 }
