@@ -1,6 +1,6 @@
 use Rattle.world_api.proofs.Looking.{files_joined}
 use Rattle.scons_host.specs.Laws.{look_back}
-use Rattle.scons_reading.proofs.reading.first_script.Goals as goal
+use Rattle.scons_reading.proofs.starting.first_script.Goals as goal
 
 pub returns-clause-looks : goal.returns-clause-looks
 returns-clause-looks g c = files_joined g.W.Disk.meaning _ _ _ c.first_path.ensures.looks c.first.ensures.looks

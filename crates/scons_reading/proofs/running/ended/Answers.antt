@@ -4,7 +4,7 @@ use Rattle.py_meaning.specs.declared.fault.EvalKind.{EvalKind}
 use Rattle.scons_host.specs.Laws.{own_at}
 use Rattle.scons_reading.specs.Running.{HasKindCause, HasFaultCause}
 use Rattle.scons_reading.proofs.Carrying.{own_kind}
-use Rattle.scons_reading.proofs.reading.ended.Goals as goal
+use Rattle.scons_reading.proofs.running.ended.Goals as goal
 
 pub returns-in-Host : goal.returns-in-Host
 returns-in-Host c = λ old new cause.

@@ -2,7 +2,7 @@ use Rattle.std.proofs.Common.{rules}
 use Rattle.py_tree.specs.Tree.{script_tree}
 use Rattle.scons_host.specs.Seeing.{seen_of, held_of}
 use Rattle.scons_reading.proofs.Carrying.{run_caused, run_given}
-use Rattle.scons_reading.proofs.reading.run_kept.Goals as goal
+use Rattle.scons_reading.proofs.running.run_kept.Goals as goal
 
 pub returns-clause-cause : goal.returns-clause-cause
 returns-clause-cause g c =

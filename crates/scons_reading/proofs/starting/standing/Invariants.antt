@@ -1,6 +1,6 @@
 use Rattle.std.proofs.Common.{◌≡◌}
 use Rattle.world_api.specs.Looks.{LooksAtFiles}
-use Rattle.scons_reading.proofs.reading.standing.Given as goal
+use Rattle.scons_reading.proofs.starting.standing.Given as goal
 
 abbrev pub invariant-loop-name : goal.invariant-loop-name
 invariant-loop-name g l = record {

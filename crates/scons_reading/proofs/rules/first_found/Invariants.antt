@@ -1,6 +1,6 @@
 use Rattle.std.proofs.Common.{◌≡◌}
 use Rattle.world_api.specs.Looks.{LooksAtFiles}
-use Rattle.scons_reading.proofs.rules.find.Given as goal
+use Rattle.scons_reading.proofs.rules.first_found.Given as goal
 
 abbrev pub invariant-loop-asked : goal.invariant-loop-asked
 invariant-loop-asked g l = record {

@@ -1,6 +1,6 @@
 use Rattle.std.proofs.Common.{◌∙◌}
 use Rattle.world_api.proofs.Looking.{files_joined}
-use Rattle.scons_reading.proofs.rules.find.Goals as goal
+use Rattle.scons_reading.proofs.rules.first_found.Goals as goal
 
 pub returns-in_err-is_file-clause-looks : goal.returns-in_err-is_file-clause-looks
 returns-in_err-is_file-clause-looks g c = files_joined g.W.Disk.meaning c.args.world.now c.loop-asked.world c.is_file.new.world c.loop-asked.invariant.looks c.is_file.ensures.looks

@@ -1,6 +1,6 @@
 use Rattle.world_api.proofs.Looking.{files_joined}
 use Rattle.scons_host.specs.Laws.{look_back}
-use Rattle.scons_reading.proofs.reading.begun.Goals as goal
+use Rattle.scons_reading.proofs.starting.begun.Goals as goal
 
 pub returns-clause-looks : goal.returns-clause-looks
 returns-clause-looks g c = files_joined g.W.Disk.meaning _ _ _ c.top_path.ensures.looks c.first_script-script.ensures.looks
