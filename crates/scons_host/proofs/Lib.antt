@@ -1,7 +1,14 @@
 mod Exits
+pub mod Forms
 pub mod Keeping
 pub mod Lasts
 pub mod Meant
+pub mod Ordered
+pub mod Globs
 pub mod Plain
+pub mod Refusing
 pub mod Saying
+pub mod Scripting
+pub mod Showing
 pub mod Stopping
+pub mod Turning

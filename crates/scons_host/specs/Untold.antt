@@ -4,6 +4,8 @@ use Rattle.scons_host.specs.declared.end.HostEnd.{HostEnd}
 use Rattle.scons_host.specs.declared.end.HostEnd.TheVariants as end
 use Rattle.scons_host.specs.declared.end.ReadKind.{ReadKind}
 use Rattle.scons_host.specs.declared.end.ReadKind.TheVariants as read
+use Rattle.scons_host.specs.declared.stop.Stop.{Stop}
+use Rattle.scons_host.specs.declared.stop.Stop.TheVariants as stop
 
 -- a fault without what is told besides
 abbrev pub untold_kind : ReadKind → ReadKind
@@ -26,3 +28,13 @@ untold_end end.Memory = end.Memory
 abbrev pub untold_if : Option HostEnd → Option HostEnd
 untold_if (Some e) = Some (untold_end e)
 untold_if None = None
+
+-- a stop without it, where it stops for a fault of another script
+abbrev pub untold_stop : Stop → Stop
+untold_stop (stop.Here kind) = stop.Here kind
+untold_stop (stop.There path line kind) = stop.There path line (untold_kind kind)
+untold_stop (stop.Tree path) = stop.Tree path
+untold_stop stop.Out = stop.Out
+untold_stop (stop.TooLarge path size) = stop.TooLarge path size
+untold_stop (stop.TooMany what count) = stop.TooMany what count
+untold_stop stop.Memory = stop.Memory

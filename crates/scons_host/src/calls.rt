@@ -4,10 +4,13 @@ ghost use Rattle.py_host.specs.Calls.{arguments_of, given_of};
 ghost use Rattle.py_host.specs.Extends.{Extends};
 ghost use Rattle.scons_host.specs.Answers as answers;
 ghost use Rattle.scons_host.specs.Called as spec;
+ghost use Rattle.scons_host.specs.Calling as calling;
 ghost use Rattle.scons_host.specs.Causes.{HasLookCause};
 ghost use Rattle.scons_host.specs.Refusals as told;
 ghost use Rattle.scons_host.specs.Sharing as sharing;
+ghost use Rattle.scons_host.specs.Shown.{Shown, IsTold};
 ghost use Rattle.scons_host.specs.SoFar.{so_far};
+ghost use Rattle.scons_host.specs.Untold.{untold_stop};
 ghost use Rattle.world_api.specs.Looks.{LooksAtFiles};
 
 use crate::answers::{flat_value, split_value};
@@ -46,6 +49,12 @@ pub fn call<W: World>(
     ensures looks { LooksAtFiles W.meaning world.old world.new }
     ensures cause { HasLookCause (W.meaning.counts world.old) (W.meaning.counts world.new) result }
     ensures stands { Extends heap.old heap.new }
+    ensures ok { let at = caller.entry in Shown W.meaning world.old world.new (λ f. IfOk result (λ reply.
+        calling.call f (so_far state.old) heap.old at.place at.locals.now at.globals.now object.0 (arguments_of args.now)
+        ≡ Ok (given_of reply, so_far state.new, heap.new))) }
+    ensures fault { let at = caller.entry in Shown W.meaning world.old world.new (λ f. IfErr result (λ e. IsTold e →
+        calling.call f (so_far state.old) heap.old at.place at.locals.now at.globals.now object.0 (arguments_of args.now)
+        ≡ Err (untold_stop e))) }
 {
     let (env, request) = requested(state, heap, object, args)?;
     answered(state, world, heap, caller, env, request)
@@ -148,6 +157,12 @@ fn answered<W: World>(
     ensures looks { LooksAtFiles W.meaning world.old world.new }
     ensures cause { HasLookCause (W.meaning.counts world.old) (W.meaning.counts world.new) result }
     ensures stands { Extends heap.old heap.new }
+    ensures ok { let at = caller.entry in Shown W.meaning world.old world.new (λ f. IfOk result (λ reply.
+        calling.answered f (so_far state.old) heap.old at.place at.locals.now at.globals.now env.0 request
+        ≡ Ok (given_of reply, so_far state.new, heap.new))) }
+    ensures fault { let at = caller.entry in Shown W.meaning world.old world.new (λ f. IfErr result (λ e. IsTold e →
+        calling.answered f (so_far state.old) heap.old at.place at.locals.now at.globals.now env.0 request
+        ≡ Err (untold_stop e))) }
 {
     match request {
         Request::Glob(pattern) => Ok(Reply::Value(glob(state, world, heap, env, &pattern)?)),

@@ -1,7 +1,9 @@
 //! The host: each of its calls is a function on the state of the reading, and what it refuses is kept there.
-ghost use Rattle.std.specs.Prelude.{◌≡◌, ◌≤◌};
+ghost use Rattle.std.specs.Prelude.{◌≡◌, ◌≤◌, Some};
 ghost use Rattle.scons_base.specs.Rising.{Rose};
 ghost use Rattle.scons_host.specs.Causes.{KeepsEnd};
+ghost use Rattle.scons_host.specs.SoFar.{so_far};
+ghost use Rattle.scons_host.specs.Told.{end_at};
 
 use crate::asked::{attribute, item, set_item};
 use crate::calls::{Caller, call};
@@ -35,7 +37,10 @@ fn refuse(
     called: Option<HostId>,
     stop: Stop,
 ) -> HostRefusal
+    ensures told { result ≡ HostRefusal.Host → kept.new.end ≡ Some (end_at (so_far state.now) place called stop) }
     ensures end { result ≡ HostRefusal.Host → KeepsEnd stop kept.new.end }
+    ensures untold { stop ≡ Stop.Memory → result ≡ HostRefusal.Memory }
+    ensures same { result ≡ HostRefusal.Memory → kept.new ≡ kept.old }
     ensures later { kept.old.refusals ≤ kept.new.refusals }
     ensures counted { result ≡ HostRefusal.Host → Rose kept.old.refusals kept.new.refusals }
 {

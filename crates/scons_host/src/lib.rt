@@ -22,6 +22,7 @@ mod open;
 mod printing;
 mod scopes;
 mod scripts;
+mod sources;
 mod state;
 mod stop;
 

@@ -1,29 +1,34 @@
 //! Scripts: the calls of SConscript, and the first scripts.
-ghost use Rattle.std.specs.Prelude.{IfErr};
+ghost use Rattle.std.specs.Prelude.{◌≡◌, ◌≢◌, Ok, Err, IfOk, IfErr, OnOk, codes, unwrap_or, option_copied};
+ghost use Rattle.std.specs.Option.{option_map};
+ghost use Rattle.py_host.specs.Calls.{given_of, tree_of};
 ghost use Rattle.py_host.specs.Extends.{Extends};
+ghost use Rattle.py_tree.specs.Tree.{script_tree};
 ghost use Rattle.scons_host.specs.Causes.{HasLookCause, IsInside};
+ghost use Rattle.scons_host.specs.Files.{Files};
+ghost use Rattle.scons_host.specs.Forms.{TellsForms};
+ghost use Rattle.scons_host.specs.Scripts as spec;
+ghost use Rattle.scons_host.specs.Shown.{Shown, IsTold};
+ghost use Rattle.scons_host.specs.SoFar.{so_far, waiting_of};
+ghost use Rattle.scons_host.specs.Untold.{untold_stop};
 ghost use Rattle.world_api.specs.Looks.{LooksAtFiles};
 
-use crate::asks::bytes_of;
 use crate::calls::Caller;
 use crate::end::ReadKind;
-use crate::form_text::{told_of_bytes, told_of_tokens};
 use crate::open::OpenCall;
-use crate::scopes::put_exports;
+use crate::scopes::{one_or_tuple, put_exports};
+use crate::sources::{Source, read, script_of, standing};
 use crate::state::State;
 use crate::stop::{Refusal, Stop, bad_argument};
 use py_heap::{Heap, Value};
 use py_host::{Reply, Scope};
-use py_lex::{LexFault, lex};
-use py_parse::{ParseFault, parse};
 use py_tree::Script;
-use scons_base::limits::SCRIPT_LIMIT;
-use scons_base::{Blob, EnvId, PathText};
+use scons_base::{EnvId, Memory, PathText};
 use scons_calls::{ScriptFiles, tuple_value};
-use scons_decls::{Given, NameFault, ScriptPlace};
+use scons_decls::{Given, ScriptPlace};
 use std::alloc::Global;
 use std::collections::VecDeque;
-use world_api::{ReadRefusal, World};
+use world_api::World;
 
 /// Begins the scripts of a call of SConscript.
 #[tactic(auto, using(crate::specs::Looking::looking))]
@@ -38,51 +43,51 @@ pub fn open_scripts<W: World>(
     ensures looks { LooksAtFiles W.meaning world.old world.new }
     ensures cause { HasLookCause (W.meaning.counts world.old) (W.meaning.counts world.new) result }
     ensures stands { Extends heap.old heap.new }
+    ensures ok { let at = caller.entry in Shown W.meaning world.old world.new (λ f. IfOk result (λ reply.
+        spec.sconscript f (so_far state.old) heap.old at.place at.locals.now at.globals.now env.0 files
+        ≡ Ok (given_of reply, so_far state.new, heap.new))) }
+    ensures fault { let at = caller.entry in Shown W.meaning world.old world.new (λ f. IfErr result (λ e. IsTold e →
+        spec.sconscript f (so_far state.old) heap.old at.place at.locals.now at.globals.now env.0 files ≡ Err (untold_stop e))) }
 {
-    push_call(state, caller, env, files)?;
-    go_on(state, world, heap)
+    let call = opened(state.alloc, caller, env, files)?;
+    go_on(state, world, heap, call)
 }
 
-/// Puts a call in front of those whose scripts are being read.
-fn push_call(
-    state: &mut State,
+/// A call of SConscript, before its first script begins.
+fn opened(
+    alloc: Global,
     caller: Caller<'_>,
     env: EnvId,
-    files: ScriptFiles,
-) -> Result<(), Refusal> {
-    let alloc = state.alloc;
+    asked: ScriptFiles,
+) -> Result<OpenCall, Refusal>
+    ensures ok { let at = caller.entry in IfOk result (λ call.
+        spec.opened at.place at.locals.now at.globals.now env.0 asked ≡ Ok (waiting_of call)) }
+    ensures fault { let at = caller.entry in IfErr result (λ e. e ≢ Refusal.Memory →
+        spec.opened at.place at.locals.now at.globals.now env.0 asked ≡ Err e) }
+{
     let ScriptFiles {
         files,
         exports,
         variant,
         duplicate,
-    } = files;
-    let count = files.len();
-    if variant.is_some() && count != 1 {
+    } = asked;
+    let is_one = files.len() == 1;
+    if variant.is_some() && !is_one {
         return Err(bad_argument(alloc, "SConscript"));
     }
     let mut names = Scope::new(alloc);
     put_exports(alloc, &mut names, &exports, caller.locals, caller.globals)?;
-    state.open.push(OpenCall {
+    Ok(OpenCall {
         place: caller.place,
         env,
-        files: queue(alloc, files.into_vec())?,
-        several: count != 1,
+        files: VecDeque::from_vec(files.into_vec()),
+        several: !is_one,
         exports: names,
         variant,
         duplicate,
         answers: Vec::new(alloc),
         returned: Value::Nil,
-    })?;
-    Ok(())
-}
-
-fn queue(alloc: Global, files: Vec<Given>) -> Result<VecDeque<Given>, Refusal> {
-    let mut queue = VecDeque::new(alloc);
-    for file in files {
-        queue.push_back(file)?;
-    }
-    Ok(queue)
+    })
 }
 
 /// A script that a call of SConscript began has ended: the next one begins, or the call is answered.
@@ -95,163 +100,193 @@ pub fn script_done<W: World>(
     ensures looks { LooksAtFiles W.meaning world.old world.new }
     ensures cause { HasLookCause (W.meaning.counts world.old) (W.meaning.counts world.new) result }
     ensures stands { Extends heap.old heap.new }
+    ensures ok { Shown W.meaning world.old world.new (λ f. IfOk result (λ reply.
+        spec.script_done f (so_far state.old) heap.old ≡ Ok (given_of reply, so_far state.new, heap.new))) }
+    ensures fault { Shown W.meaning world.old world.new (λ f. IfErr result (λ e. IsTold e →
+        spec.script_done f (so_far state.old) heap.old ≡ Err (untold_stop e))) }
 {
-    keep_returned(state)?;
-    go_on(state, world, heap)
-}
-
-/// Keeps what the script that has ended returned.
-fn keep_returned(state: &mut State) -> Result<(), Refusal> {
     state.declared.end_script();
-    if let Some(call) = state.open.last_mut() {
-        let returned = call.returned;
-        call.returned = Value::Nil;
-        call.answers.push(returned)?;
+    match call_taken(state) {
+        Some(call) => go_on(state, world, heap, with_answer(call)?),
+        None => Ok(Reply::Value(Value::Nil)),
     }
-    Ok(())
 }
 
-/// Begins the next script of the innermost call, or answers that call.
+/// Takes the innermost call out of those that wait.
+fn call_taken(state: &mut State) -> Option<OpenCall>
+    ensures { spec.call_taken (so_far state.old) ≡ (option_map waiting_of result, so_far state.new) }
+{
+    state.open.pop()
+}
+
+/// The call with what its script has returned, which has ended.
+fn with_answer(mut call: OpenCall) -> Result<OpenCall, Memory>
+    ensures { IfOk result (λ after. waiting_of after ≡ spec.with_answer (waiting_of call)) }
+{
+    call.answers.push(call.returned)?;
+    call.returned = Value::Nil;
+    Ok(call)
+}
+
+/// Begins the next script of a call, or answers the call.
 #[tactic(auto, using(crate::specs::Looking::looking))]
-fn go_on<W: World>(state: &mut State, world: &mut W, heap: &mut Heap) -> Result<Reply, Stop>
+fn go_on<W: World>(
+    state: &mut State,
+    world: &mut W,
+    heap: &mut Heap,
+    mut call: OpenCall,
+) -> Result<Reply, Stop>
     ensures looks { LooksAtFiles W.meaning world.old world.new }
     ensures cause { HasLookCause (W.meaning.counts world.old) (W.meaning.counts world.new) result }
     ensures stands { Extends heap.old heap.new }
+    ensures ok { Shown W.meaning world.old world.new (λ f. IfOk result (λ reply.
+        spec.go_on f (so_far state.old) heap.old (waiting_of call) ≡ Ok (given_of reply, so_far state.new, heap.new))) }
+    ensures fault { Shown W.meaning world.old world.new (λ f. IfErr result (λ e. IsTold e →
+        spec.go_on f (so_far state.old) heap.old (waiting_of call) ≡ Err (untold_stop e))) }
 {
-    let next = match state.open.last_mut() {
-        Some(call) => call.files.pop_front(),
-        None => None,
-    };
-    match next {
-        Some(file) => Ok(Reply::Script(begun(state, world, &file)?)),
-        None => Ok(Reply::Value(ended(state, heap)?)),
+    match next_file(&mut call) {
+        Some(file) => {
+            let script = next_begins(state, world, &call, &file)?;
+            wait(state, call)?;
+            Ok(Reply::Script(script))
+        }
+        None => Ok(Reply::Value(answer_of(heap, &call)?)),
     }
 }
 
-/// What the innermost call answers, whose scripts have all ended.
-#[tactic(auto, using(crate::specs::Looking::looking))]
-fn ended(state: &mut State, heap: &mut Heap) -> Result<Value, Refusal>
-    ensures { Extends heap.old heap.new }
+/// The next script of a call.
+fn next_file(call: &mut OpenCall) -> Option<Given>
+    ensures { spec.next_file (waiting_of call.old) ≡ (result, waiting_of call.new) }
 {
-    let Some(call) = state.open.pop() else {
-        return Ok(Value::Nil);
-    };
-    match call.answers.as_slice() {
-        [answer] if !call.several => Ok(*answer),
-        answers => Ok(tuple_value(heap, answers)?),
+    call.files.pop_front()
+}
+
+/// Puts a call behind those that wait.
+fn wait(state: &mut State, call: OpenCall) -> Result<(), Memory>
+    ensures { OnOk result (so_far state.new ≡ spec.waits (so_far state.old) (waiting_of call)) }
+{
+    state.open.push(call)?;
+    Ok(())
+}
+
+/// What a call answers whose scripts have all ended.
+#[tactic(auto, using(crate::specs::Looking::looking))]
+fn answer_of(heap: &mut Heap, call: &OpenCall) -> Result<Value, Refusal>
+    ensures stands { Extends heap.old heap.new }
+    ensures ok { IfOk result (λ v. spec.answer_of heap.old (waiting_of call.now) ≡ Ok (v, heap.new)) }
+    ensures fault { IfErr result (λ e. e ≢ Refusal.Memory → spec.answer_of heap.old (waiting_of call.now) ≡ Err e) }
+{
+    let answers = call.answers.as_slice();
+    if call.several {
+        Ok(tuple_value(heap, answers)?)
+    } else {
+        one_or_tuple(heap, answers)
     }
 }
 
-/// Finds and begins a script of the innermost call.
+/// Finds a script of a call, and begins it.
 #[tactic(auto, using(crate::specs::Looking::looking))]
-fn begun<W: World>(state: &mut State, world: &mut W, file: &Given) -> Result<Script, Stop>
+fn next_begins<W: World>(
+    state: &mut State,
+    world: &mut W,
+    call: &OpenCall,
+    file: &Given,
+) -> Result<Script, Stop>
     ensures looks { LooksAtFiles W.meaning world.old world.new }
     ensures cause { HasLookCause (W.meaning.counts world.old) (W.meaning.counts world.new) result }
+    ensures ok { Shown W.meaning world.old world.new (λ f. IfOk result (λ script.
+        spec.next_begins f (so_far state.old) (waiting_of call.now) file.now ≡ Ok (script_tree script, so_far state.new))) }
+    ensures fault { Shown W.meaning world.old world.new (λ f. IfErr result (λ e. IsTold e →
+        spec.next_begins f (so_far state.old) (waiting_of call.now) file.now ≡ Err (untold_stop e))) }
 {
-    let place = found(state, file)?;
-    match opened(state, world, &place)? {
-        Some(script) => Ok(script),
-        None => Err(missing(&place)),
+    let place = found(state, call, file)?;
+    let source = standing(world, place.candidates.as_slice())?;
+    begins_at(state, &place, source)
+}
+
+/// Where a script of a call stands.
+fn found(state: &mut State, call: &OpenCall, file: &Given) -> Result<ScriptPlace, Refusal>
+    ensures ok { IfOk result (λ place.
+        spec.found (so_far state.old) (waiting_of call.now) file.now ≡ Ok (place, so_far state.new)) }
+    ensures fault { IfErr result (λ e. e ≢ Refusal.Memory →
+        spec.found (so_far state.old) (waiting_of call.now) file.now ≡ Err e) }
+{
+    let variant = call.variant.as_ref();
+    let place = state
+        .declared
+        .find_script(call.env, file, variant, call.duplicate)?;
+    Ok(place)
+}
+
+/// Begins the script that was found, if it stands.
+fn begins_at(state: &mut State, place: &ScriptPlace, source: Option<Source>) -> Result<Script, Stop>
+    ensures inside { IfErr result IsInside }
+    ensures ok { (f : Files) → TellsForms f.form → IfOk result (λ script.
+        spec.begins_at f (so_far state.old) place.now source ≡ Ok (script_tree script, so_far state.new)) }
+    ensures fault { (f : Files) → TellsForms f.form → IfErr result (λ e. IsTold e →
+        spec.begins_at f (so_far state.old) place.now source ≡ Err (untold_stop e)) }
+{
+    match source {
+        Some(source) => begins(state, &source, &place.dir),
+        None => Err(no_script(place)),
     }
 }
 
-/// No script stands where one of the innermost call lies: it is missed where its source is.
-fn missing(place: &ScriptPlace) -> Stop
-    ensures { IsInside result }
+/// No script stands where one of a call lies, on the line that reads it.
+fn no_script(place: &ScriptPlace) -> Stop
+    ensures inside { IsInside result }
+    ensures told { IsTold result → result ≡ Stop.Here (ReadKind.NoScript (spec.missed place.now)) }
 {
-    let candidates = place.candidates.as_slice();
-    let source = candidates
-        .iter()
-        .find(|path| path.dir() != place.dir.as_str());
-    match source.or(candidates.first()) {
-        Some(path) => no_script_here(path),
-        None => no_script_here(&place.dir),
-    }
-}
-
-/// There is no script at a path, on the line that reads it.
-fn no_script_here(path: &PathText) -> Stop
-    ensures { IsInside result }
-{
-    match path.copy() {
+    match missed(place).copy() {
         Ok(path) => Stop::Here(ReadKind::NoScript(path)),
         Err(_) => Stop::Memory,
     }
 }
 
-/// Where a script of the innermost call lies.
-fn found(state: &mut State, file: &Given) -> Result<ScriptPlace, Refusal> {
-    match state.open.last() {
-        Some(call) => Ok(
-            state
-                .declared
-                .find_script(call.env, file, call.variant.as_ref(), call.duplicate)?,
-        ),
-        None => Err(Refusal::Kind(ReadKind::NoScript(state.top.copy()?))),
+/// Where a script is missed.
+fn missed(place: &ScriptPlace) -> &PathText
+    ensures { result.now ≡ spec.missed place.now }
+{
+    let candidates = place.candidates.as_slice();
+    match elsewhere(candidates, &place.dir).or(candidates.first()) {
+        Some(path) => path,
+        None => &place.dir,
     }
 }
 
-/// Reads and begins the first script of some candidates that stands.
-#[tactic(auto, using(crate::specs::Looking::looking))]
-fn opened<W: World>(
-    state: &mut State,
-    world: &mut W,
-    place: &ScriptPlace,
-) -> Result<Option<Script>, Stop>
-    ensures looks { LooksAtFiles W.meaning world.old world.new }
-    ensures cause { HasLookCause (W.meaning.counts world.old) (W.meaning.counts world.new) result }
+/// The first of some paths that lies in another directory.
+fn elsewhere<'a>(paths: &'a [PathText], dir: &PathText) -> Option<&'a PathText>
+    ensures { option_copied result ≡ spec.elsewhere dir.now paths.now }
 {
-    for path in place.candidates.as_slice() {
-        if let Some(bytes) = read(world, path)? {
-            let script = script_of(state.alloc, path, &bytes)?;
-            begin(state, path, &place.dir)?;
-            return Ok(Some(script));
+    for path in paths {
+        if path.dir() != dir.as_str() {
+            return Some(path);
         }
     }
-    Ok(None)
+    None
+}
+
+/// Begins the script that a source is; its texts are read from a directory.
+fn begins(state: &mut State, source: &Source, dir: &PathText) -> Result<Script, Stop>
+    ensures inside { IfErr result IsInside }
+    ensures ok { (f : Files) → TellsForms f.form → IfOk result (λ script.
+        spec.begins f (so_far state.old) source.now dir.now ≡ Ok (script_tree script, so_far state.new)) }
+    ensures fault { (f : Files) → TellsForms f.form → IfErr result (λ e. IsTold e →
+        spec.begins f (so_far state.old) source.now dir.now ≡ Err (untold_stop e)) }
+{
+    let script = script_of(state.alloc, source)?;
+    begin(state, &source.path, dir)?;
+    Ok(script)
 }
 
 /// Notes that a script begins.
-fn begin(state: &mut State, path: &PathText, dir: &PathText) -> Result<(), Refusal> {
+fn begin(state: &mut State, path: &PathText, dir: &PathText) -> Result<(), Refusal>
+    ensures ok { OnOk result (spec.begin (so_far state.old) path.now dir.now ≡ Ok (so_far state.new)) }
+    ensures fault { IfErr result (λ e. e ≢ Refusal.Memory → spec.begin (so_far state.old) path.now dir.now ≡ Err e) }
+{
     state.declared.begin_script(dir)?;
     state.scripts.push(path.copy()?)?;
     Ok(())
-}
-
-/// The bytes of a script, if it stands.
-#[tactic(auto, using(crate::specs::Looking::looking))]
-fn read<W: World>(world: &mut W, path: &PathText) -> Result<Option<Blob>, Stop>
-    ensures looks { LooksAtFiles W.meaning world.old world.new }
-    ensures cause { HasLookCause (W.meaning.counts world.old) (W.meaning.counts world.new) result }
-{
-    match bytes_of(world, path, SCRIPT_LIMIT) {
-        Ok(content) => Ok(content),
-        Err(ReadRefusal::Fault) => Err(Stop::tree(path)),
-        Err(ReadRefusal::TooLarge(size)) => Err(Stop::TooLarge(path.copy()?, size)),
-        Err(ReadRefusal::Memory) => Err(Stop::Memory),
-    }
-}
-
-/// The script that bytes are.
-fn script_of(alloc: Global, path: &PathText, bytes: &Blob) -> Result<Script, Stop>
-    ensures { IfErr result IsInside }
-{
-    let tokens = match lex(alloc, bytes.as_slice()) {
-        Ok(tokens) => tokens,
-        Err(LexFault::At { line, kind }) => {
-            let told = told_of_bytes(alloc, kind, line, bytes.as_slice())?;
-            return Err(Stop::There(path.copy()?, line, ReadKind::Lex(kind, told)));
-        }
-        Err(LexFault::Memory) => return Err(Stop::Memory),
-    };
-    match parse(alloc, &tokens) {
-        Ok(script) => Ok(script),
-        Err(ParseFault::At { line, token, kind }) => {
-            let told = told_of_tokens(alloc, kind, token, tokens.as_slice())?;
-            Err(Stop::There(path.copy()?, line, ReadKind::Parse(kind, told)))
-        }
-        Err(ParseFault::Memory) => Err(Stop::Memory),
-    }
 }
 
 /// Begins the next first script, if there is a further one.
@@ -259,12 +294,23 @@ fn script_of(alloc: Global, path: &PathText, bytes: &Blob) -> Result<Script, Sto
 pub fn next_first<W: World>(state: &mut State, world: &mut W) -> Result<Option<Script>, Stop>
     ensures looks { LooksAtFiles W.meaning world.old world.new }
     ensures cause { HasLookCause (W.meaning.counts world.old) (W.meaning.counts world.new) result }
+    ensures ok { Shown W.meaning world.old world.new (λ f. IfOk result (λ script.
+        spec.next_first f (so_far state.old) ≡ Ok (tree_of script, so_far state.new))) }
+    ensures fault { Shown W.meaning world.old world.new (λ f. IfErr result (λ e. IsTold e →
+        spec.next_first f (so_far state.old) ≡ Err (untold_stop e))) }
 {
-    let Some(path) = state.first.pop_front() else {
+    let Some(path) = next_path(state) else {
         return Ok(None);
     };
     state.declared.end_script();
     Ok(Some(first(state, world, path)?))
+}
+
+/// Takes the next first script out of those that are still to be read.
+fn next_path(state: &mut State) -> Option<PathText>
+    ensures { spec.next_path (so_far state.old) ≡ (result, so_far state.new) }
+{
+    state.first.pop_front()
 }
 
 /// Begins a first script.
@@ -272,21 +318,33 @@ pub fn next_first<W: World>(state: &mut State, world: &mut W) -> Result<Option<S
 pub fn first<W: World>(state: &mut State, world: &mut W, path: PathText) -> Result<Script, Stop>
     ensures looks { LooksAtFiles W.meaning world.old world.new }
     ensures cause { HasLookCause (W.meaning.counts world.old) (W.meaning.counts world.new) result }
+    ensures ok { Shown W.meaning world.old world.new (λ f. IfOk result (λ script.
+        spec.first f (so_far state.old) path ≡ Ok (script_tree script, so_far state.new))) }
+    ensures fault { Shown W.meaning world.old world.new (λ f. IfErr result (λ e. IsTold e →
+        spec.first f (so_far state.old) path ≡ Err (untold_stop e))) }
 {
     match read(world, &path)? {
-        Some(bytes) => {
-            let script = script_of(state.alloc, &path, &bytes)?;
-            let dir = top_dir(state.alloc)?;
-            begin(state, &path, &dir)?;
-            Ok(script)
-        }
+        Some(bytes) => first_begins(state, Source { path, bytes }),
         None => Err(no_first(path)),
     }
 }
 
+/// Begins a first script, whose texts are read from the top directory wherever it lies.
+fn first_begins(state: &mut State, source: Source) -> Result<Script, Stop>
+    ensures inside { IfErr result IsInside }
+    ensures ok { (f : Files) → TellsForms f.form → IfOk result (λ script.
+        spec.begins f (so_far state.old) source (codes ".") ≡ Ok (script_tree script, so_far state.new)) }
+    ensures fault { (f : Files) → TellsForms f.form → IfErr result (λ e. IsTold e →
+        spec.begins f (so_far state.old) source (codes ".") ≡ Err (untold_stop e)) }
+{
+    let dir = top_dir(state.alloc)?;
+    begins(state, &source, &dir)
+}
+
 /// There is no first script at a path.
 fn no_first(path: PathText) -> Stop
-    ensures { IsInside result }
+    ensures inside { IsInside result }
+    ensures told { IsTold result → result ≡ Stop.There path 0 (ReadKind.NoScript path) }
 {
     match path.copy() {
         Ok(copy) => Stop::There(path, 0, ReadKind::NoScript(copy)),
@@ -294,10 +352,12 @@ fn no_first(path: PathText) -> Stop
     }
 }
 
-/// The directory from which a first script's texts are read, wherever the script lies.
-fn top_dir(alloc: Global) -> Result<PathText, Refusal> {
+/// The top directory, as a path.
+fn top_dir(alloc: Global) -> Result<PathText, Memory>
+    ensures { IfOk result (λ dir. dir ≡ codes ".") }
+{
     match PathText::read(alloc, ".") {
         Ok(dir) => Ok(dir),
-        Err(fault) => Err(Refusal::from(NameFault::from(fault))),
+        Err(_) => Err(Memory),
     }
 }

@@ -2,6 +2,7 @@
 ghost use Rattle.std.specs.Prelude.{◌≡◌, ◌≢◌};
 ghost use Rattle.scons_host.specs.Refusals as told;
 ghost use Rattle.scons_host.specs.declared.stop.Refusal.TheVariants as refusal;
+ghost use Rattle.scons_host.specs.declared.stop.Stop.TheVariants as stop;
 
 use crate::end::ReadKind;
 use py_heap::ValueFault;
@@ -37,11 +38,14 @@ impl Stop {
     ghost use Rattle.world_api.specs.Causes.{TreeFails};
     ghost use Rattle.world_api.specs.Counts.{Counts};
     ghost use Rattle.scons_host.specs.Causes.{HasStopCause};
+    ghost use Rattle.scons_host.specs.Shown.{IsTold};
 
     /// The tree refused at this path.
     #[tactic(auto, using(crate::specs::Looking::looking))]
     pub fn tree(path: &PathText) -> Stop
-        ensures { (old new : Counts) → TreeFails old new → HasStopCause old new result }
+        ensures cause { (old new : Counts) → TreeFails old new → HasStopCause old new result }
+        ensures is { result ≢ Stop.Memory → result ≡ Stop.Tree path.now }
+        ensures untold { IsTold result → ⊥ }
     {
         match path.copy() {
             Ok(path) => Stop::Tree(path),
@@ -135,9 +139,7 @@ impl<T: Drop> From<AllocFailed<T>> for Refusal {
 }
 
 impl From<Refusal> for Stop {
-    ghost use Rattle.scons_host.specs.Causes.{IsInside};
-
-    ghost from_gives = { λ _ e. IsInside e };
+    ghost from_gives = { λ refusal e. e ≡ told.of_refusal refusal };
 
     fn from(refusal: Refusal) -> Self {
         match refusal {
@@ -148,9 +150,7 @@ impl From<Refusal> for Stop {
 }
 
 impl From<NoMemory> for Stop {
-    ghost use Rattle.scons_host.specs.Causes.{IsInside};
-
-    ghost from_gives = { λ _ e. IsInside e };
+    ghost from_gives = { λ _ e. e ≡ stop.Memory };
 
     fn from(_: NoMemory) -> Self {
         Stop::Memory
@@ -158,9 +158,7 @@ impl From<NoMemory> for Stop {
 }
 
 impl From<AllocError> for Stop {
-    ghost use Rattle.scons_host.specs.Causes.{IsInside};
-
-    ghost from_gives = { λ _ e. IsInside e };
+    ghost from_gives = { λ _ e. e ≡ stop.Memory };
 
     fn from(_: AllocError) -> Self {
         Stop::Memory
@@ -168,9 +166,7 @@ impl From<AllocError> for Stop {
 }
 
 impl<T: Drop> From<AllocFailed<T>> for Stop {
-    ghost use Rattle.scons_host.specs.Causes.{IsInside};
-
-    ghost from_gives = { λ _ e. IsInside e };
+    ghost from_gives = { λ _ e. e ≡ stop.Memory };
 
     fn from(_: AllocFailed<T>) -> Self {
         Stop::Memory

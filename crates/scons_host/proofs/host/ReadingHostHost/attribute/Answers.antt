@@ -1,6 +1,7 @@
 use Rattle.std.proofs.Common.{◌≡◌, refl}
 use Rattle.py_host.specs.declared.refusal.HostRefusal.TheVariants as refusal
 use Rattle.world_api.proofs.Looking.{files_same}
+use Rattle.scons_host.specs.Looking.{refusal_stops}
 use Rattle.scons_host.specs.Laws.{keeps_answered, serves_answered, keeps_refused, refuses_looked}
 use Rattle.scons_host.proofs.host.ReadingHostHost.attribute.Goals as goal
 
@@ -23,4 +24,4 @@ pub returns-in-Err-clause-refused : goal.returns-in-Err-clause-refused
 returns-in-Err-clause-refused g c = λ e.
     let h = c.args.self.now in
     let is : c.refuse.result ≡ refusal.Host = cc in
-    (refl, (refuses_looked g.W.Disk.meaning g.O.Sink.meaning h.world.now h.world.now h.out.now h.kept.now c.refuse.new.kept c.from.result (files_same g.W.Disk.meaning h.world.now) (c.from.ensures (g.W.Disk.meaning.counts h.world.now)) (c.refuse.ensures.end is) (c.refuse.ensures.counted is), c.attribute.ensures.stands))
+    (refl, (refuses_looked g.W.Disk.meaning g.O.Sink.meaning h.world.now h.world.now h.out.now h.kept.now c.refuse.new.kept c.from.result (files_same g.W.Disk.meaning h.world.now) (refusal_stops c.in-Err.refusal c.from.result c.from.ensures (g.W.Disk.meaning.counts h.world.now)) (c.refuse.ensures.end is) (c.refuse.ensures.counted is), c.attribute.ensures.stands))
