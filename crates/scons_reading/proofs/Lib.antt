@@ -1,1 +1,7 @@
+mod Beginning
 mod Carrying
+mod Coming
+mod Faults
+mod Finding
+mod Overs
+mod Putting
