@@ -185,7 +185,8 @@ pub fn is_file<W: World>(world: &mut W, path: &PathText) -> Result<bool, Stop>
     ensures untold { IfErr result (λ s. IsTold s → ⊥) }
 {
     match kind_of(world, path) {
-        Ok(kind) => Ok(kind == Kind::File),
+        Ok(Kind::File) => Ok(true),
+        Ok(Kind::Dir | Kind::Absent) => Ok(false),
         Err(_) => Err(Stop::tree(path)),
     }
 }

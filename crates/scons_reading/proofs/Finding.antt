@@ -1,0 +1,48 @@
+-- The files that are found: which of some is the first, and those of all that are wanted.
+use Rattle.std.proofs.Common.{◌≡◌, ◌<◌, ◌≤◌, ◌+◌, ◌∙◌, ◌++◌, ◌∷◌, [], arith, refl, sym, ap, subst, ℕ, Bool, true, false, List, Option, Some, None, length, map, drop, append-nil, append_assoc}
+use Rattle.std.specs.Prelude.{slice_get, unwrap_or, if◌then◌else◌}
+use Rattle.std.specs.List.{find, filter_map}
+use Rattle.std.specs.Option.{is_some}
+use Rattle.world_api.specs.declared.world.Kind.{Kind}
+use Rattle.world_api.specs.declared.world.Kind.TheVariants as kind
+use Rattle.std.specs.Prelude.{IsSome}
+use Rattle.scons_host.specs.Shown.{IsKindOf}
+use Rattle.scons_reading.specs.Graphs.{found}
+
+-- what is found at a path tells whether a file stands there
+pub is_there : (content : Option (List ℕ)) (k : Kind) → IsKindOf content k → k ≡ kind.File → true ≡ is_some content
+is_there (Some bytes) k found is = refl
+is_there None kind.File found is = absurd found
+is_there None kind.Dir found is = absurd cc
+is_there None kind.Absent found is = absurd cc
+
+pub is_away : (content : Option (List ℕ)) → content ≡ None → false ≡ is_some content
+is_away content none = ap is_some (sym none)
+
+-- libraries, of which one more is found or not
+pub found_more : (one : Option (List ℕ)) (rest : List (Option (List ℕ))) → found (one ∷ rest) ≡ found (one ∷ []) ++ found rest
+found_more (Some library) rest = refl
+found_more None rest = refl
+
+pub found_next : {X : Type 0} (g : X → Option (List ℕ)) (xs : List X) (x : X) (rest : List X) (before : List (List ℕ)) (now : List (List ℕ)) (all : List (List ℕ))
+    → xs ≡ x ∷ rest → all ≡ before ++ found (map g xs) → now ≡ before ++ found (g x ∷ []) → all ≡ now ++ found (map g rest)
+found_next g xs x rest before now all is left one =
+    left ∙ ap (λ (l : List _). before ++ found (map g l)) is ∙ ap (λ (l : List (List ℕ)). before ++ l) (found_more (g x) (map g rest))
+    ∙ sym (append_assoc before (found (g x ∷ [])) (found (map g rest))) ∙ ap (λ (l : List (List ℕ)). l ++ found (map g rest)) (sym one)
+
+pub found_all : {X : Type 0} (g : X → Option (List ℕ)) (xs : List X) (now all : List (List ℕ)) → xs ≡ [] → all ≡ now ++ found (map g xs) → now ≡ all
+found_all g xs now all is left = sym (left ∙ ap (λ (l : List _). now ++ found (map g l)) is ∙ append-nil now)
+
+-- one is put behind others, or none
+pub one_found : (before now : List (List ℕ)) (library : List ℕ) (o : Option (List ℕ)) → o ≡ Some library → now ≡ before ++ library ∷ [] → now ≡ before ++ found (o ∷ [])
+one_found before now library o is pushed = pushed ∙ ap (λ (x : Option (List ℕ)). before ++ found (x ∷ [])) (sym is)
+
+pub none_found : (before : List (List ℕ)) (o : Option (List ℕ)) → o ≡ None → before ≡ before ++ found (o ∷ [])
+none_found before o is = sym (append-nil before) ∙ ap (λ (x : Option (List ℕ)). before ++ found (x ∷ [])) (sym is)
+
+-- the first that passes a test, by the test of the one in front
+pub found_first : {X : Type 0} (p : X → Bool) (xs rest : List X) (x : X) → xs ≡ x ∷ rest → true ≡ p x → find p xs ≡ Some x
+found_first p xs rest x is passes = ap (find p) is ∙ ap (λ b. if b then Some x else find p rest) (sym passes)
+
+pub found_later : {X : Type 0} (p : X → Bool) (xs rest : List X) (x : X) → xs ≡ x ∷ rest → false ≡ p x → find p xs ≡ find p rest
+found_later p xs rest x is fails = ap (find p) is ∙ ap (λ b. if b then Some x else find p rest) (sym fails)
