@@ -1,7 +1,12 @@
+mod Alone
 mod Beginning
 mod Carrying
 mod Coming
 mod Faults
 mod Finding
+mod One
 mod Overs
 mod Putting
+mod Questions
+mod Sources
+mod Sufficing
