@@ -23,7 +23,59 @@ use variant_dirs::Variants;
 pub struct State {
     pub objects: Objects,
     pub declared: Declarations,
-    /// The state in which nothing was read yet.
+    /// The dict of the arguments of the command line.
+    pub arguments: Value,
+    /// What scripts have exported to all others.
+    pub exports: Scope,
+    /// The calls of SConscript that wait for a script, the innermost last.
+    pub open: Vec<OpenCall>,
+    /// The scripts that have begun, by their numbers.
+    pub scripts: Paths,
+    /// The first scripts that are still to be read.
+    pub first: VecDeque<PathText>,
+    pub top: PathText,
+    pub alloc: Global,
+}
+
+impl State {
+    /// The state as the first script begins.
+    pub fn new(
+        alloc: Global,
+        heap: &mut Heap,
+        top: PathText,
+        words: &Words,
+    ) -> Result<State, Refusal>
+        ensures locals { IfOk result (λ s. spec.AreFirst top s.declared.locals) }
+        ensures state { IfOk result (λ s. so_far s ≡ spec.unread top s.declared.locals s.arguments) }
+        ensures arguments { IfOk result (λ s. spec.arguments heap.old words.now.arguments ≡ Ok (s.arguments, heap.new)) }
+        ensures fault { IfErr result (λ e. e ≢ Refusal.Memory → spec.arguments heap.old words.now.arguments ≡ Err e) }
+    {
+        let arguments = arguments(heap, words.arguments.as_slice())?;
+        Ok(unread(alloc, top, arguments)?)
+    }
+
+    /// What a name stands for that neither scripts nor the language have.
+    pub fn name(&self, name: &str) -> Option<Value>
+        ensures { result ≡ name_in (so_far self.now) name.now }
+    {
+        if name == "ARGUMENTS" {
+            return Some(self.arguments);
+        }
+        Some(Value::Object(self.objects.name(name)?))
+    }
+
+    /// The path of the script of a number.
+    pub fn script_at(&self, number: u64) -> Result<PathText, Memory>
+        ensures { IfOk result (λ path. path ≡ script_at (so_far self.now) number) }
+    {
+        match self.scripts.as_slice().get(number as usize) {
+            Some(path) => path.copy(),
+            None => self.top.copy(),
+        }
+    }
+}
+
+/// The state in which nothing was read yet.
 fn unread(alloc: Global, top: PathText, arguments: Value) -> Result<State, Memory>
     ensures locals { IfOk result (λ s. spec.AreFirst top s.declared.locals) }
     ensures state { IfOk result (λ s. so_far s ≡ spec.unread top s.declared.locals arguments) }

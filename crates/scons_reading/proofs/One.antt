@@ -70,10 +70,10 @@ module _ (f : Files) (d : Declared) where
   refused_same : {scripts : List (List ℕ)} (n m : ℕ) {g g2 : PathGraph} {e e2 : RuleReadFault} → Puts f d n g → Adds f d n g (Err e) → Puts f d m g2 → Adds f d m g2 (Err e2) → rule_stop scripts d n e ≡ rule_stop scripts d m e2
   refused_same {scripts = scripts} n m {e2 = e2} puts no puts2 no2 = elim (cases_order n m) [
     | inl same ↦
-      let at = subst (λ k. Puts f d k _) (sym same) puts2 in
-      let fault = subst (λ k. Adds f d k _ (Err e2)) (sym same) no2 in
-      let one = same_err (one_adds no (subst (λ x. Adds f d n x (Err e2)) (sym (one_puts puts at)) fault)) refl in
-      ap (rule_stop scripts d n) one ∙ ap (λ k. rule_stop scripts d k e2) same
+        let at = subst (λ k. Puts f d k _) (sym same) puts2 in
+        let fault = subst (λ k. Adds f d k _ (Err e2)) (sym same) no2 in
+        let one = same_err (one_adds no (subst (λ x. Adds f d n x (Err e2)) (sym (one_puts puts at)) fault)) refl in
+        ap (rule_stop scripts d n) one ∙ ap (λ k. rule_stop scripts d k e2) same
     | inr o ↦ elim o [
       | inl l ↦ absurd (not_put l puts no puts2)
       | inr l ↦ absurd (not_put l puts2 no2 puts)

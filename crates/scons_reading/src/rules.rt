@@ -112,7 +112,7 @@ fn add<W: World>(
     ensures fault { Shown W.meaning world.old world.new (λ f. IfErr result (λ s. IsTold s →
         spec.IsRuleStop f reading.old.declared scripts.now number (graph_by reading.old.graph) s)) }
     ensures rest { reading.new.declared ≡ reading.old.declared }
-    ensures within { OnOk result (spec.IsWithin reading.old.declared locals.new) }
+    ensures still { OnOk result (spec.IsWithin reading.old.declared locals.new) }
 {
     let wanted = match wanted(reading, locals, number) {
         Ok(wanted) => wanted,

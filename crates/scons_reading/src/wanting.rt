@@ -23,23 +23,19 @@ pub fn wanted(
         ≡ Ok (map (found_in (spec.standing_in f)) w)) }
     ensures fault { IfErr result (λ e. e ≢ RuleReadFault.Memory → (f : Files) (g : PathGraph)
         → spec.Adds f reading.now.declared number g (Err e)) }
-    ensures within { OnOk result (spec.IsWithin reading.now.declared locals.new) }
+    ensures still { OnOk result (spec.IsWithin reading.now.declared locals.new) }
 {
     begin(reading, locals, number)?;
     reading.wanted(number, locals)
 }
 
 /// Makes what the lines of a rule know that of the rule of a number.
-fn begin(
-    reading: &RuleReading,
-    locals: &mut RuleLocals,
-    number: usize,
-) -> Result<(), RuleReadFault>
+fn begin(reading: &RuleReading, locals: &mut RuleLocals, number: usize) -> Result<(), RuleReadFault>
     requires there { number < length reading.now.declared.rules }
     requires within { spec.IsWithin reading.now.declared locals.old }
     ensures known { OnOk result (spec.known_at reading.now.declared number ≡ Ok (known_of locals.new)) }
     ensures fault { IfErr result (λ e. e ≢ RuleReadFault.Memory → spec.known_at reading.now.declared number ≡ Err e) }
-    ensures within { OnOk result (spec.IsWithin reading.now.declared locals.new) }
+    ensures still { OnOk result (spec.IsWithin reading.now.declared locals.new) }
 {
     reading.begin(number, locals)
 }
