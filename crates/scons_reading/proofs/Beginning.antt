@@ -1,11 +1,13 @@
 -- The first script, begun where nothing was read.
-use Rattle.std.proofs.Common.{◌≡◌, ◌≢◌, ◌∙◌, refl, sym, ap, subst, ℕ, List, Result, Ok, Err}
+use Rattle.std.proofs.Common.{◌≡◌, ◌≢◌, ◌∙◌, refl, sym, ap, subst, ℕ, List, Result, Ok, Err, IfOk, IfErr}
 use Rattle.env_subst.specs.declared.locals.Locals.{Locals}
 use Rattle.py_heap.specs.declared.value.Value.{Value}
 use Rattle.py_heap.specs.Heap.{Objects, no_objects}
-use Rattle.py_tree.specs.Tree.{Tree}
+use Rattle.py_tree.specs.declared.line.Script.{Script}
+use Rattle.py_tree.specs.Tree.{Tree, script_tree}
 use Rattle.scons_words.specs.declared.words.Words.{Words}
 use Rattle.scons_calls.specs.Results.{and_then}
+use Rattle.scons_host.specs.declared.state.State.{State}
 use Rattle.scons_host.specs.declared.stop.Refusal.{Refusal}
 use Rattle.scons_host.specs.declared.stop.Refusal.TheVariants as refusal
 use Rattle.scons_host.specs.declared.stop.Stop.{Stop}
@@ -13,10 +15,10 @@ use Rattle.scons_host.specs.Files.{Files}
 use Rattle.scons_host.specs.Refusals.{of_refusal, told_by}
 use Rattle.scons_host.specs.Scripts.{first}
 use Rattle.scons_host.specs.Shown.{IsTold}
-use Rattle.scons_host.specs.SoFar.{SoFar}
+use Rattle.scons_host.specs.SoFar.{SoFar, so_far}
 use Rattle.scons_host.specs.Starting.{AreFirst, arguments, unread}
 use Rattle.scons_host.specs.Untold.{untold_stop}
-use Rattle.scons_reading.specs.Beginning.{Begins, BeginsNot, bad_word, no_script, with_further}
+use Rattle.scons_reading.specs.Beginning.{Begins, BeginsNot, begun_by, bad_word, no_script, with_further}
 use Rattle.scons_reading.specs.Firsts.{first_of}
 use Rattle.scons_reading.specs.Reads.{Begun, begun_of, begun_in, begins}
 
@@ -32,11 +34,32 @@ begins_by f w l a h s r words is script =
     ∙ ap (in_heap h) script
 
 module _ (f : Files) (w : Words) (top : List ℕ) (l : Locals) (a : Value) (h : Objects) (s : SoFar) (at : top ≡ f.top) (new : AreFirst top l) (words : arguments no_objects w.arguments ≡ Ok (a, h)) (is : s ≡ unread top l a) where
-  pub begins_so : (t : Tree) (s1 : SoFar) → first f (with_further w.scripts s) (first_of f w.scripts) ≡ Ok (t, s1) → Begins f w (begun_of t s1 h)
-  begins_so t s1 script = (l, subst (λ p. AreFirst p l) at new, begins_by f w l a h s (Ok (t, s1)) words (is ∙ ap (λ p. unread p l a) at) script)
+  abbrev script_first : Result (Tree × SoFar) Stop
+  script_first = first f (with_further w.scripts s) (first_of f w.scripts)
 
-  pub begins_not : (e : Stop) → first f (with_further w.scripts s) (first_of f w.scripts) ≡ Err e → BeginsNot f w e
-  begins_not e script = no_script l (subst (λ p. AreFirst p l) at new) (begins_by f w l a h s (Err e) words (is ∙ ap (λ p. unread p l a) at) script)
+  by : (r : Result (Tree × SoFar) Stop) → script_first ≡ r → begins f w l ≡ in_heap h r
+  by r script = begins_by f w l a h s r words (is ∙ ap (λ p. unread p l a) at) script
+
+  pub begins_so : (t : SoFar) (r : Result Script Stop) → IfOk r (λ x. script_first ≡ Ok (script_tree x, t)) → IfOk r (λ x. Begins f w (begun_of (script_tree x) t h))
+  begins_so t (Ok x) script = (l, subst (λ p. AreFirst p l) at new, by (Ok (script_tree x, t)) script)
+  begins_so t (Err e) script = tt
+
+  pub begins_not : (r : Result Script Stop) → IfErr r (λ e. IsTold e → script_first ≡ Err (untold_stop e)) → IfErr r (λ e. IsTold e → BeginsNot f w (untold_stop e))
+  begins_not (Ok x) script = tt
+  begins_not (Err e) script = λ t. no_script l (subst (λ p. AreFirst p l) at new) (by (Err (untold_stop e)) (script t))
+
+-- the state beside its first script
+pub joined_so : (f : Files) (w : Words) (h : Objects) (r : Result (State × Script) Stop) (state : State) (script : Result Script Stop) → IfOk r (λ b. (b.0 ≡ state) × (script ≡ Ok b.1))
+    → IfOk script (λ x. Begins f w (begun_of (script_tree x) (so_far state) h)) → IfOk r (λ b. Begins f w (begun_by b.1 b.0 h))
+joined_so f w h (Ok b) state script is begins =
+    subst (λ (x : State). Begins f w (begun_of (script_tree b.1) (so_far x) h)) (sym is.0)
+    (subst (λ (x : Result Script Stop). IfOk x (λ t. Begins f w (begun_of (script_tree t) (so_far state) h))) is.1 begins)
+joined_so f w h (Err e) state script is begins = tt
+
+pub joined_not : (f : Files) (w : Words) (r : Result (State × Script) Stop) (script : Result Script Stop) → IfErr r (λ s. script ≡ Err s)
+    → IfErr script (λ s. IsTold s → BeginsNot f w (untold_stop s)) → IfErr r (λ s. IsTold s → BeginsNot f w (untold_stop s))
+joined_not f w (Ok b) script is not = tt
+joined_not f w (Err e) script is not = subst (λ (x : Result Script Stop). IfErr x (λ s. IsTold s → BeginsNot f w (untold_stop s))) is not
 
 -- a word that is refused
 same_told : (r : Refusal) → untold_stop (of_refusal r) ≡ of_refusal r

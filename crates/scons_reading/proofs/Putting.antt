@@ -1,5 +1,5 @@
 -- Declared rules put into a graph one behind another.
-use Rattle.std.proofs.Common.{◌≡◌, ◌<◌, ◌+◌, ◌∙◌, arith, refl, sym, ap, subst, ℕ, suc, List, Option, Some, None, Result, Ok, Err, IfErr, OnOk, length, map, inl, inr}
+use Rattle.std.proofs.Common.{◌≡◌, ◌<◌, ◌+◌, ◌∙◌, arith, refl, sym, ap, subst, ℕ, suc, List, Option, Some, None, Result, Ok, Err, IfOk, IfErr, OnOk, length, map, inl, inr}
 use Rattle.std.specs.Prelude.{slice_get}
 use Rattle.std.proofs.lemmas.Option.{slice_get_cases}
 use Rattle.env_subst.specs.declared.locals.Locals.{Locals}
@@ -77,3 +77,18 @@ put_all f d n g is puts = subst (λ k. Puts f d k g) is puts
 
 pub put_stop : (f : Files) (d : Declared) (scripts : List (List ℕ)) (n : ℕ) (g : PathGraph) (s : Stop) → n < length d.rules → Puts f d n g → IsRuleStop f d scripts n g s → Graphs f d scripts (Err s)
 put_stop f d scripts n g s within puts stop = refused within puts stop
+
+-- the graph of all rules, or the stop of one or of what stands behind them
+pub graph_ok : (f : Files) (d e : Declared) (scripts : List (List ℕ)) (rules : Result (Unit {0}) Stop) (g : RuleGraph) (r : Result RuleGraph Stop) → e ≡ d
+    → IfOk r (λ x. (rules ≡ Ok tt) × (closed scripts e (graph_by g) ≡ Ok (graph_by x))) → OnOk rules (Puts f d (length d.rules) (graph_by g)) → IfOk r (λ x. Graphs f d scripts (Ok (graph_by x)))
+graph_ok f d e scripts rules g (Ok x) same is puts =
+    made (subst (λ (y : Result (Unit {0}) Stop). OnOk y (Puts f d (length d.rules) (graph_by g))) is.0 puts) (ap (λ (y : Declared). closed scripts y (graph_by g)) (sym same) ∙ is.1)
+graph_ok f d e scripts rules g (Err s) same is puts = tt
+
+pub graph_stop : (f : Files) (d e : Declared) (scripts : List (List ℕ)) (rules : Result (Unit {0}) Stop) (g : RuleGraph) (r : Result RuleGraph Stop) → e ≡ d
+    → IfErr r (λ s. IsTold s → IsEndOfRules rules (closed scripts e (graph_by g)) s) → OnOk rules (Puts f d (length d.rules) (graph_by g)) → IfErr rules (λ s. IsTold s → Graphs f d scripts (Err s))
+    → IfErr r (λ s. IsTold s → Graphs f d scripts (Err s))
+graph_stop f d e scripts rules g (Ok x) same is puts stops = tt
+graph_stop f d e scripts (Ok u) g (Err s) same is puts stops = λ t. made puts (ap (λ (y : Declared). closed scripts y (graph_by g)) (sym same) ∙ is t)
+graph_stop f d e scripts (Err why) g (Err s) same is puts stops = λ t.
+    subst (λ (x : Stop). Graphs f d scripts (Err x)) (sym (is t)) (stops (subst IsTold (is t) t))
