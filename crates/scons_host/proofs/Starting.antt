@@ -25,17 +25,17 @@ fresh_is top d l new = λ i. record {
 
 -- what was read, by its parts
 abbrev part : Things → Declared → Value → Names → List OpenCall → List (List ℕ) → List (List ℕ) → List ℕ → SoFar
-part objects declared arguments exports open scripts first top = record {
+part objects declared arguments exports calls scripts first top = record {
   objects = objects;
   declared = declared;
   arguments = arguments;
   exports = exports;
-  waiting = map waiting_of open;
+  waiting = map waiting_of calls;
   scripts = scripts;
   first = first;
   top = top;
 }
 
-pub unread_is : (objects : Things) (d : Declared) (l : Locals) (arguments : Value) (exports : Names) (open : List OpenCall) (scripts first : List (List ℕ)) (top : List ℕ)
-    → objects ≡ with_names [] → d ≡ undeclared l → exports ≡ [] → open ≡ [] → scripts ≡ [] → first ≡ [] → part objects d arguments exports open scripts first top ≡ unread top l arguments
-unread_is objects d l arguments exports open scripts first top a b c e s t = λ i. part (a i) (b i) arguments (c i) (e i) (s i) (t i) top
+pub unread_is : (objects : Things) (d : Declared) (l : Locals) (arguments : Value) (exports : Names) (calls : List OpenCall) (scripts first : List (List ℕ)) (top : List ℕ)
+    → objects ≡ with_names [] → d ≡ undeclared l → exports ≡ [] → calls ≡ [] → scripts ≡ [] → first ≡ [] → part objects d arguments exports calls scripts first top ≡ unread top l arguments
+unread_is objects d l arguments exports calls scripts first top a b c e s t = λ i. part (a i) (b i) arguments (c i) (e i) (s i) (t i) top
