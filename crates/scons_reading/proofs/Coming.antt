@@ -155,15 +155,18 @@ module _ {W O : Type 0} (m : Meaning W) (p : SinkMeaning O) where
         subst (λ (start : Plain SoFar HostEnd). Comes r IsOutside (λ end. Evaluates (plain reading_rules f) t o all_units start r end) (plain_from n k)) (nothing_before h fresh)
         (meant (saying m p reading_rules) reading_rules f (plain_from n) IsOutside (SeesFrom n f) (saying_kept m p reading_rules) (says_from n f) t o all_units found (record { sees = sees; behind = omega arith }))
 
+    seen : {H N : Type 0} (see : H → Seen W O SoFar) (held : H → N) (a c : H) (r : Result Out Fault) → see a ≡ h → see c ≡ k
+        → Evaluates (lent see held (saying m p reading_rules)) t o all_units a r c → Evaluates (saying m p reading_rules) t o all_units h r k
+    seen see held a c r first last found =
+        subst (λ (x : Seen W O SoFar). Evaluates (saying m p reading_rules) t o all_units x r k) first
+        (subst (λ (x : Seen W O SoFar). Evaluates (saying m p reading_rules) t o all_units (see a) r x) last
+        (simulated (lent_simulates see held (saying m p reading_rules)) found))
+
     came : {H N : Type 0} (see : H → Seen W O SoFar) (held : H → N) (a c : H) (r : Result Ran EvalFault) → see a ≡ h → see c ≡ k
         → IsFound (lent see held (saying m p reading_rules)) t o all_units a r c → CameTo f (At h t o) (drop n (p.text k.out)) k.state k.kept.end r
-    came see held a c (Ok done) first last found =
-        ran (plainly _ (subst (λ (x : Seen W O SoFar). Evaluates (saying m p reading_rules) t o all_units x _ k) first (subst (λ (x : Seen W O SoFar). Evaluates (saying m p reading_rules) t o all_units (see a) _ x) last
-        (simulated (lent_simulates see held (saying m p reading_rules)) found.1))))
+    came see held a c (Ok done) first last found = ran (plainly _ (seen see held a c _ first last found.1))
     came see held a c (Err (fault.At script line e)) first last found =
-        kind_stops f (At h t o) (record { script = script; line = line }) e (plain_from n k) k.kept.end refl
-        (plainly _ (subst (λ (x : Seen W O SoFar). Evaluates (saying m p reading_rules) t o all_units x _ k) first (subst (λ (x : Seen W O SoFar). Evaluates (saying m p reading_rules) t o all_units (see a) _ x) last
-        (simulated (lent_simulates see held (saying m p reading_rules)) found))))
+        kind_stops f (At h t o) (record { script = script; line = line }) e (plain_from n k) k.kept.end refl (plainly _ (seen see held a c _ first last found))
     came see held a c (Err fault.Memory) first last found = tt
 
     since : (P : List ℕ → Type 0) → Keeps m p h k → P (drop n (p.text k.out)) → Since (p.text h.out) (p.text k.out) P
