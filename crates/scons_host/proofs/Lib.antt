@@ -1,3 +1,4 @@
+pub mod Beginning
 mod Exits
 pub mod Forms
 pub mod Keeping

@@ -1,11 +1,13 @@
 -- Scripts that begin and end, as the code finds, reads and refuses them.
 use Rattle.std.proofs.Common.{arith, ◌≡◌, ◌≢◌, ◌∙◌, ◌≤◌, ◌<◌, ◌+◌, ◌-◌, ℕ, suc, List, [], ◌∷◌, ◌++◌, Option, Some, None, Result, Ok, Err, map, drop, take, length, get_or, refl, sym, ap, subst, add-one, drop-cons}
-use Rattle.std.specs.Prelude.{slice_get, MatchOption, option_to_list}
+use Rattle.std.specs.Prelude.{slice_get, MatchOption, option_to_list, IfOk, IfErr, IsErrAnd}
 use Rattle.std.specs.Option.{option_map}
 use Rattle.std.proofs.lemmas.List.{length-map, take-map, drop_all}
 use Rattle.std.proofs.lemmas.Option.{slice_get-get_or, slice_get_past}
 use Rattle.py_tree.specs.Tree.{Tree}
 use Rattle.scons_calls.specs.Results.{and_then}
+use Rattle.scons_base.specs.declared.limits.TheConstants.{SCRIPT_LIMIT}
+use Rattle.world_api.specs.declared.refusal.ReadRefusal.TheVariants as unread
 use Rattle.scons_host.specs.declared.end.ReadKind.{ReadKind}
 use Rattle.scons_host.specs.declared.open.OpenCall.{OpenCall}
 use Rattle.scons_host.specs.declared.sources.Source.{Source}
@@ -17,9 +19,9 @@ use Rattle.scons_host.specs.Broken.{IsThere, IsBroken}
 use Rattle.scons_host.specs.Files.{Files}
 use Rattle.scons_host.specs.Forms.{Form, IsForm, TellsForms}
 use Rattle.scons_host.specs.Refusals.{of_refusal, told_by}
-use Rattle.scons_host.specs.Scripts.{bytes_at, or_further, standing, tree_by, call_taken}
+use Rattle.scons_host.specs.Scripts.{stop_at, bytes_at, or_further, standing, tree_by, call_taken}
 use Rattle.scons_host.specs.Sharing.{innermost}
-use Rattle.scons_host.specs.Shown.{IsTold}
+use Rattle.scons_host.specs.Shown.{read_within, IsTold}
 use Rattle.scons_host.specs.SoFar.{SoFar, Waiting, waiting_of}
 use Rattle.scons_host.specs.Untold.{untold_kind, untold_stop}
 use Rattle.scons_host.proofs.Lasts.{innermost_of}
@@ -50,6 +52,22 @@ then_goes made more x r is on = ap (λ m. and_then m more) is ∙ on
 pub told_goes : {X D E : Type 0} (f : D → E) (made : Result X D) (x : X) → made ≡ Ok x → told_by f made ≡ Ok x
 told_goes f made x is = ap (told_by f) is
 
+-- Results.
+
+-- the exit of a `?`
+pub exit_at : {T : Type 0} (P : Stop → Type 0) (e : Stop) (made : Result T Stop) → IsErrAnd made (λ s. s ≡ e) → P e → IfErr made P
+exit_at P e (Ok x) is holds = absurd is
+exit_at P e (Err s) is holds = subst P (sym is) holds
+
+-- a result that is returned as it is, of a part to which the whole comes
+pub ok_same : {T X : Type 0} (made : Result T Stop) (see : T → X) (part whole : Result X Stop) → whole ≡ part → IfOk made (λ x. part ≡ Ok (see x)) → IfOk made (λ x. whole ≡ Ok (see x))
+ok_same (Ok x) see part whole same is = same ∙ is
+ok_same (Err e) see part whole same is = tt
+
+pub err_same : {T X : Type 0} (made : Result T Stop) (part whole : Result X Stop) → whole ≡ part → IfErr made (λ e. IsTold e → part ≡ Err (untold_stop e)) → IfErr made (λ e. IsTold e → whole ≡ Err (untold_stop e))
+err_same (Ok x) part whole same is = tt
+err_same (Err e) part whole same is = λ told. same ∙ is told
+
 -- Lists.
 
 pub pair_is : {A B : Type 0} (a x : A) (b y : B) → a ≡ x → b ≡ y → ◌≡◌ {A = A × B} (a, b) (x, y)
@@ -62,10 +80,10 @@ first_is xs rest None n m same is cases = let none = cases.0 in slice_get_past x
 
 -- what is taken out behind
 pub last_is : {A : Type 0} (xs : List A) (o : Option A) (n m : ℕ) → n ≡ length xs → MatchOption o ((n ≡ 0) × (m ≡ 0)) (λ x. m + 1 ≡ n) → ((d : A) → 0 < n → o ≡ Some (get_or xs (n - 1) d)) → slice_get xs (length xs - 1) ≡ o
-last_is xs (Some x) n m same cases value =
+last_is {A = A} xs (Some x) n m same cases value =
     let some : 0 < n = omega arith in
     let here : 0 < length xs = omega arith in
-    slice_get-get_or xs (length xs - 1) x (omega arith) ∙ ap (λ k. Some (get_or xs (k - 1) x)) (sym same) ∙ sym (value x some)
+    slice_get-get_or xs (length xs - 1) x (omega arith) ∙ ap {B = Option A} (λ k. Some (get_or xs (k - 1) x)) (sym same) ∙ sym (value x some)
 last_is xs None n m same cases value = let none = cases.0 in slice_get_past xs (length xs - 1) (omega arith)
 
 pub call_popped : (s : SoFar) (calls rest : List OpenCall) (o : Option OpenCall) → s.waiting ≡ map waiting_of calls → slice_get calls (length calls - 1) ≡ o → rest ≡ take (length calls - 1) calls → call_taken s ≡ (option_map waiting_of o, record s { waiting = map waiting_of rest })
@@ -137,3 +155,7 @@ broken_by path bytes line kind stop.Out there is = absurd there
 broken_by path bytes line kind (stop.TooLarge at size) there is = absurd there
 broken_by path bytes line kind (stop.TooMany what count) there is = absurd there
 broken_by path bytes line kind stop.Memory there is = tt
+
+-- a script with more bytes than it may have
+pub read_large : (f : Files) (path : List ℕ) (size : ℕ) (e : Stop) → read_within SCRIPT_LIMIT (f.tree path) ≡ Err (unread.TooLarge size) → e ≡ stop.TooLarge path size → bytes_at f path ≡ Err (untold_stop e)
+read_large f path size e is told = ap (told_by (stop_at path)) is ∙ ap (λ t. let made : Result (Option (List ℕ)) Stop = Err (untold_stop t) in made) (sym told)

@@ -17,9 +17,12 @@ use Rattle.scons_host.specs.Refusals.{of_refusal, told_by}
 use Rattle.scons_host.specs.Scripts.{Look, sconscript}
 use Rattle.scons_host.specs.SoFar.{SoFar}
 
+abbrev pub valued : Value × SoFar × Objects → Look Given
+valued m = Ok (a_value m.0, m.1, m.2)
+
 -- a step that gives a value, as an answer
 abbrev pub as_value : Step Value → Look Given
-as_value step = and_then (told_by of_refusal step) (λ m. Ok (a_value m.0, m.1, m.2))
+as_value step = and_then (told_by of_refusal step) valued
 
 -- what is asked is done, by the names of the function that calls and of its script
 abbrev pub answered : Files → SoFar → Objects → Place → Names → Names → ℕ → Request → Look Given
@@ -28,7 +31,9 @@ answered f s h place locals globals env (request.Scripts asked) = sconscript f s
 answered f s h place locals globals env (request.Shares asked) = told_by of_refusal (shares s h locals globals asked)
 answered f s h place locals globals env (request.Gives asked) = as_value (gives s h place env asked)
 
+abbrev pub answered_in : Files → SoFar → Objects → Place → Names → Names → ℕ × Request → Look Given
+answered_in f s h place locals globals a = answered f s h place locals globals a.0 a.1
+
 -- the call of an object
 abbrev pub call : Files → SoFar → Objects → Place → Names → Names → ℕ → Arguments → Look Given
-call f s h place locals globals object args =
-    and_then (told_by of_refusal (asks s h object args)) (λ a. answered f s h place locals globals a.0 a.1)
+call f s h place locals globals object args = and_then (told_by of_refusal (asks s h object args)) (answered_in f s h place locals globals)

@@ -1,6 +1,5 @@
 -- Scripts that read scripts: scons(1) under SConscript, and the first scripts, which the words of the command line name.
 use Rattle.std.specs.Prelude.{ℕ, ◌-◌, ◌==◌, Bool, true, false, not, ◌&&◌, List, [], ◌∷◌, ◌++◌, Option, Some, None, Result, Ok, Err, codes, length, drop, take, is_some, slice_get, unwrap_or, if◌then◌else◌}
-use Rattle.std.specs.Option.{option_or}
 use Rattle.std.specs.List.{find}
 use Rattle.std.specs.Str.{bytes_eq}
 use Rattle.scons_base.specs.declared.limits.TheConstants.{SCRIPT_LIMIT}
@@ -68,10 +67,11 @@ abbrev pub begin : SoFar → List ℕ → List ℕ → Result SoFar Refusal
 begin s path dir =
     and_then (told_by of_name (begun s.declared dir)) (λ d. Ok (record s { declared = d; scripts = s.scripts ++ path ∷ [] }))
 
+abbrev pub noted : SoFar → List ℕ → List ℕ → Tree → Result (Tree × SoFar) Stop
+noted s path dir tree = and_then (told_by of_refusal (begin s path dir)) (λ t. Ok (tree, t))
+
 abbrev pub begins : Files → SoFar → Source → List ℕ → Result (Tree × SoFar) Stop
-begins f s source dir =
-    and_then (tree_by source.path (f.form source.bytes)) (λ tree.
-    and_then (told_by of_refusal (begin s source.path dir)) (λ t. Ok (tree, t)))
+begins f s source dir = and_then (tree_by source.path (f.form source.bytes)) (noted s source.path dir)
 
 -- where a script of a call stands
 abbrev pub found : SoFar → Waiting → Node → Result (ScriptPlace × SoFar) Refusal
@@ -84,17 +84,18 @@ elsewhere dir paths = find (λ path. not (bytes_eq (dir_of path) dir)) paths
 
 -- where a script is missed: at its source, which lies in another directory, where it has one
 abbrev pub missed : ScriptPlace → List ℕ
-missed place = unwrap_or (option_or (elsewhere place.dir place.candidates) (slice_get place.candidates 0)) place.dir
+missed place = unwrap_or (elsewhere place.dir place.candidates) (unwrap_or (slice_get place.candidates 0) place.dir)
 
 abbrev pub begins_at : Files → SoFar → ScriptPlace → Option Source → Result (Tree × SoFar) Stop
 begins_at f s place (Some source) = begins f s source place.dir
 begins_at f s place None = Err (stop.Here (read.NoScript (missed place)))
 
+abbrev pub begins_found : Files → ScriptPlace × SoFar → Result (Tree × SoFar) Stop
+begins_found f at = and_then (standing f at.0.candidates) (begins_at f at.1 at.0)
+
 -- a script of a call begins
 abbrev pub next_begins : Files → SoFar → Waiting → Node → Result (Tree × SoFar) Stop
-next_begins f s call file =
-    and_then (told_by of_refusal (found s call file)) (λ at.
-    and_then (standing f at.0.candidates) (begins_at f at.1 at.0))
+next_begins f s call file = and_then (told_by of_refusal (found s call file)) (begins_found f)
 
 -- Calls of SConscript.
 
@@ -129,9 +130,15 @@ answer_of h call = answer_by call.several h call.answers
 abbrev pub waits : SoFar → Waiting → SoFar
 waits s call = record s { waiting = s.waiting ++ call ∷ [] }
 
+abbrev pub runs : Objects → Waiting → Tree × SoFar → Look Given
+runs h call m = Ok (a_script m.0, waits m.1 call, h)
+
+abbrev pub answers : SoFar → Value × Objects → Look Given
+answers s m = Ok (a_value m.0, s, m.1)
+
 abbrev pub goes_on : Files → SoFar → Objects → Option Node × Waiting → Look Given
-goes_on f s h (Some file, call) = and_then (next_begins f s call file) (λ m. Ok (a_script m.0, waits m.1 call, h))
-goes_on f s h (None, call) = and_then (told_by of_refusal (answer_of h call)) (λ m. Ok (a_value m.0, s, m.1))
+goes_on f s h (Some file, call) = and_then (next_begins f s call file) (runs h call)
+goes_on f s h (None, call) = and_then (told_by of_refusal (answer_of h call)) (answers s)
 
 -- the next script of a call begins, for which the call waits; behind its last one the call is answered
 abbrev pub go_on : Files → SoFar → Objects → Waiting → Look Given
@@ -177,8 +184,11 @@ first f s path = and_then (bytes_at f path) (first_by f s path)
 abbrev pub next_path : SoFar → Option (List ℕ) × SoFar
 next_path s = (slice_get s.first 0, record s { first = drop 1 s.first })
 
+abbrev pub some_tree : Tree × SoFar → Result (Option Tree × SoFar) Stop
+some_tree m = Ok (Some m.0, m.1)
+
 abbrev pub next_by : Files → Option (List ℕ) × SoFar → Result (Option Tree × SoFar) Stop
-next_by f (Some path, s) = and_then (first f (left s) path) (λ m. Ok (Some m.0, m.1))
+next_by f (Some path, s) = and_then (first f (left s) path) some_tree
 next_by f (None, s) = Ok (None, s)
 
 -- a first script has ended, and the next one begins, if there is a further one

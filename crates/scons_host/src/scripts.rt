@@ -107,7 +107,10 @@ pub fn script_done<W: World>(
 {
     state.declared.end_script();
     match call_taken(state) {
-        Some(call) => go_on(state, world, heap, with_answer(call)?),
+        Some(call) => {
+            let after = with_answer(call)?;
+            go_on(state, world, heap, after)
+        }
         None => Ok(Reply::Value(Value::Nil)),
     }
 }
@@ -219,6 +222,7 @@ fn found(state: &mut State, call: &OpenCall, file: &Given) -> Result<ScriptPlace
 }
 
 /// Begins the script that was found, if it stands.
+#[tactic(auto, using(crate::specs::Looking::looking))]
 fn begins_at(state: &mut State, place: &ScriptPlace, source: Option<Source>) -> Result<Script, Stop>
     ensures inside { IfErr result IsInside }
     ensures ok { (f : Files) → TellsForms f.form → IfOk result (λ script.
@@ -233,6 +237,7 @@ fn begins_at(state: &mut State, place: &ScriptPlace, source: Option<Source>) -> 
 }
 
 /// No script stands where one of a call lies, on the line that reads it.
+#[tactic(auto, using(crate::specs::Looking::looking))]
 fn no_script(place: &ScriptPlace) -> Stop
     ensures inside { IsInside result }
     ensures told { IsTold result → result ≡ Stop.Here (ReadKind.NoScript (spec.missed place.now)) }
@@ -248,7 +253,10 @@ fn missed(place: &ScriptPlace) -> &PathText
     ensures { result.now ≡ spec.missed place.now }
 {
     let candidates = place.candidates.as_slice();
-    match elsewhere(candidates, &place.dir).or(candidates.first()) {
+    if let Some(path) = elsewhere(candidates, &place.dir) {
+        return path;
+    }
+    match candidates.first() {
         Some(path) => path,
         None => &place.dir,
     }
@@ -267,6 +275,7 @@ fn elsewhere<'a>(paths: &'a [PathText], dir: &PathText) -> Option<&'a PathText>
 }
 
 /// Begins the script that a source is; its texts are read from a directory.
+#[tactic(auto, using(crate::specs::Looking::looking))]
 fn begins(state: &mut State, source: &Source, dir: &PathText) -> Result<Script, Stop>
     ensures inside { IfErr result IsInside }
     ensures ok { (f : Files) → TellsForms f.form → IfOk result (λ script.
@@ -330,6 +339,7 @@ pub fn first<W: World>(state: &mut State, world: &mut W, path: PathText) -> Resu
 }
 
 /// Begins a first script, whose texts are read from the top directory wherever it lies.
+#[tactic(auto, using(crate::specs::Looking::looking))]
 fn first_begins(state: &mut State, source: Source) -> Result<Script, Stop>
     ensures inside { IfErr result IsInside }
     ensures ok { (f : Files) → TellsForms f.form → IfOk result (λ script.
@@ -342,6 +352,7 @@ fn first_begins(state: &mut State, source: Source) -> Result<Script, Stop>
 }
 
 /// There is no first script at a path.
+#[tactic(auto, using(crate::specs::Looking::looking))]
 fn no_first(path: PathText) -> Stop
     ensures inside { IsInside result }
     ensures told { IsTold result → result ≡ Stop.There path 0 (ReadKind.NoScript path) }

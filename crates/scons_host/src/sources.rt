@@ -7,7 +7,7 @@ ghost use Rattle.scons_host.specs.Causes.{HasLookCause, IsInside};
 ghost use Rattle.scons_host.specs.Forms.{IsForm};
 ghost use Rattle.scons_host.specs.Scripts as spec;
 ghost use Rattle.scons_host.specs.Shown.{Shown, IsTold};
-ghost use Rattle.scons_host.specs.Untold.{untold_kind};
+ghost use Rattle.scons_host.specs.Untold.{untold_kind, untold_stop};
 ghost use Rattle.world_api.specs.Looks.{LooksAtFiles};
 
 use crate::asks::bytes_of;
@@ -38,12 +38,12 @@ pub fn standing<W: World>(world: &mut W, paths: &[PathText]) -> Result<Option<So
     ensures ok { Shown W.meaning world.old world.new (λ f.
         IfOk result (λ source. spec.standing f paths.now ≡ Ok source)) }
     ensures fault { Shown W.meaning world.old world.new (λ f.
-        IfErr result (λ e. IsTold e → spec.standing f paths.now ≡ Err e)) }
+        IfErr result (λ e. IsTold e → spec.standing f paths.now ≡ Err (untold_stop e))) }
 {
     for path in paths {
         if let Some(bytes) = read(world, path)? {
-            let path = path.copy()?;
-            return Ok(Some(Source { path, bytes }));
+            let copy = path.copy()?;
+            return Ok(Some(Source { path: copy, bytes }));
         }
     }
     Ok(None)
@@ -57,7 +57,7 @@ pub fn read<W: World>(world: &mut W, path: &PathText) -> Result<Option<Blob>, St
     ensures ok { Shown W.meaning world.old world.new (λ f.
         IfOk result (λ bytes. spec.bytes_at f path.now ≡ Ok bytes)) }
     ensures fault { Shown W.meaning world.old world.new (λ f.
-        IfErr result (λ e. IsTold e → spec.bytes_at f path.now ≡ Err e)) }
+        IfErr result (λ e. IsTold e → spec.bytes_at f path.now ≡ Err (untold_stop e))) }
 {
     match bytes_of(world, path, SCRIPT_LIMIT) {
         Ok(content) => Ok(content),
@@ -68,6 +68,7 @@ pub fn read<W: World>(world: &mut W, path: &PathText) -> Result<Option<Blob>, St
 }
 
 /// A script has more bytes than it may.
+#[tactic(auto, using(crate::specs::Looking::looking))]
 fn too_large(path: &PathText, size: u64) -> Stop
     ensures inside { IsInside result }
     ensures told { IsTold result → result ≡ Stop.TooLarge path.now size }
@@ -79,6 +80,7 @@ fn too_large(path: &PathText, size: u64) -> Stop
 }
 
 /// The script that a source is.
+#[tactic(auto, using(crate::specs::Looking::looking))]
 pub fn script_of(alloc: Global, source: &Source) -> Result<Script, Stop>
     ensures inside { IfErr result IsInside }
     ensures ok { IfOk result (λ script. IsForm source.now.bytes (Ok (script_tree script))) }
@@ -92,6 +94,7 @@ pub fn script_of(alloc: Global, source: &Source) -> Result<Script, Stop>
 }
 
 /// The script that the tokens of a source spell.
+#[tactic(auto, using(crate::specs::Looking::looking))]
 fn script_by(alloc: Global, source: &Source, tokens: &Tokens) -> Result<Script, Stop>
     requires { Lexes source.now.bytes tokens.now }
     ensures inside { IfErr result IsInside }
@@ -108,6 +111,7 @@ fn script_by(alloc: Global, source: &Source, tokens: &Tokens) -> Result<Script, 
 }
 
 /// The fault of a source that has no tokens.
+#[tactic(auto, using(crate::specs::Looking::looking))]
 fn without_tokens(alloc: Global, source: &Source, line: u32, kind: LexKind) -> Stop
     ensures inside { IsInside result }
     ensures there { IsThere source.now.path line (ReadKind.Lex kind []) result }
@@ -119,6 +123,7 @@ fn without_tokens(alloc: Global, source: &Source, line: u32, kind: LexKind) -> S
 }
 
 /// The fault of tokens that are no script.
+#[tactic(auto, using(crate::specs::Looking::looking))]
 fn without_tree(
     alloc: Global,
     source: &Source,
@@ -137,6 +142,7 @@ fn without_tree(
 }
 
 /// A fault on a line of a script.
+#[tactic(auto, using(crate::specs::Looking::looking))]
 fn there(path: &PathText, line: u32, kind: ReadKind) -> Stop
     ensures inside { IsInside result }
     ensures there { IsThere path.now line (untold_kind kind) result }

@@ -5,19 +5,19 @@ use Rattle.scons_host.proofs.Showing.{front, rest}
 use Rattle.scons_host.proofs.globbing.files_in.Goals as goal
 
 pub returns-in_err-more-clause-looks : goal.returns-in_err-more-clause-looks
-returns-in_err-more-clause-looks g c = files_joined g.W.Disk.meaning c.args.world.now c.loop-dir.world c.list-more.new.world c.loop-dir.invariant.looks c.list-more.ensures.looks
+returns-in_err-more-clause-looks g c = files_joined g.W.Disk.meaning c.args.world.now c.loop-dir.world c.list.new.world c.loop-dir.invariant.looks c.list.ensures.looks
 
 pub returns-in_err-append-clause-looks : goal.returns-in_err-append-clause-looks
-returns-in_err-append-clause-looks g c = files_joined g.W.Disk.meaning c.args.world.now c.loop-dir.world c.list-more.new.world c.loop-dir.invariant.looks c.list-more.ensures.looks
+returns-in_err-append-clause-looks g c = files_joined g.W.Disk.meaning c.args.world.now c.loop-dir.world c.list.new.world c.loop-dir.invariant.looks c.list.ensures.looks
 
 pub loop-dir-preserved : goal.loop-dir-preserved
 loop-dir-preserved g c =
     let m = g.W.Disk.meaning in
     let before = c.args.world.now in
     let between = c.loop-dir.world in
-    let behind = c.list-more.new.world in
+    let behind = c.list.new.world in
     let there = c.loop-dir.invariant.looks in
-    let on = c.list-more.ensures.looks in
+    let on = c.list.ensures.looks in
     record {
       looks = files_joined m before between behind there on;
       same = c.in_ok-more.ensures.cause ∙ c.loop-dir.invariant.same;
