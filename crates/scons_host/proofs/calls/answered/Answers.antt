@@ -15,7 +15,7 @@ pub returns-in_err-glob-in-Glob-clause-fault : goal.returns-in_err-glob-in-Glob-
 returns-in_err-glob-in-Glob-clause-fault g c = λ f s.
     let so = so_far c.args.state.now in
     let at = c.args.caller in
-    let e = c.in_err-glob-in-Glob.field-0 in
+    let e = c.in_err-glob-in-Glob.field-0.0 in
     exit_at (λ e. IsTold e → answered f so c.args.heap.now at.place at.locals.now at.globals.now c.args.env.0 c.args.request ≡ Err (untold_stop e)) e c.from_residual-in_err-glob-in-Glob.result c.from_residual-in_err-glob-in-Glob.ensures.1
     (λ told. value_stops (glob f so c.args.heap.now c.args.env.0 c.in-Glob.pattern) e (c.in_err-glob-in-Glob.ensures.fault f s told))
 
@@ -27,7 +27,7 @@ pub returns-in_err-shared-in-Shares-clause-fault : goal.returns-in_err-shared-in
 returns-in_err-shared-in-Shares-clause-fault g c = λ f s.
     let so = so_far c.args.state.now in
     let at = c.args.caller in
-    let r = c.in_err-shared-in-Shares.field-0 in
+    let r = c.in_err-shared-in-Shares.field-0.0 in
     exit_at (λ e. IsTold e → answered f so c.args.heap.now at.place at.locals.now at.globals.now c.args.env.0 c.args.request ≡ Err (untold_stop e)) (of_refusal r) c.from_residual-in_err-shared-in-Shares.result c.from_residual-in_err-shared-in-Shares.ensures.1
     (λ told. refusal_untold (shares so c.args.heap.now at.locals.now at.globals.now c.in-Shares.asked) r (of_refusal r) refl c.in_err-shared-in-Shares.ensures.fault told)
 
@@ -40,7 +40,7 @@ pub returns-in_err-value_of-in-Gives-clause-fault : goal.returns-in_err-value_of
 returns-in_err-value_of-in-Gives-clause-fault g c = λ f s.
     let so = so_far c.args.state.now in
     let at = c.args.caller in
-    let r = c.in_err-value_of-in-Gives.field-0 in
+    let r = c.in_err-value_of-in-Gives.field-0.0 in
     exit_at (λ e. IsTold e → answered f so c.args.heap.now at.place at.locals.now at.globals.now c.args.env.0 c.args.request ≡ Err (untold_stop e)) (of_refusal r) c.from_residual-in_err-value_of-in-Gives.result c.from_residual-in_err-value_of-in-Gives.ensures.1
     (λ told. value_badly (gives so c.args.heap.now at.place c.args.env.0 c.in-Gives.asked) r (of_refusal r) refl c.in_err-value_of-in-Gives.ensures.fault told)
 

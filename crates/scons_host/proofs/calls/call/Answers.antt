@@ -14,7 +14,7 @@ returns-in_err-requested-clause-fault g c = λ f s.
     let so = so_far c.args.state.now in
     let at = c.args.caller in
     let args = arguments_of c.args.args.now in
-    let r = c.in_err-requested.field-0 in
+    let r = c.in_err-requested.field-0.0 in
     exit_at (λ e. IsTold e → call f so c.args.heap.now at.place at.locals.now at.globals.now c.args.object.0 args ≡ Err (untold_stop e)) (of_refusal r) c.from_residual.result c.from_residual.ensures.1
     (λ told. unasked f so c.args.heap.now at.place at.locals.now at.globals.now c.args.object.0 args r (of_refusal r) refl c.in_err-requested.ensures.fault told)
 

@@ -12,14 +12,14 @@ use Rattle.scons_host.proofs.scripts.begins.Goals as goal
 pub returns-in_err-script-clause-fault : goal.returns-in_err-script-clause-fault
 returns-in_err-script-clause-fault c = λ f tells.
     let so = so_far c.args.state.now in
-    let e = c.in_err-script.field-0 in
+    let e = c.in_err-script.field-0.0 in
     exit_at (λ e. IsTold e → begins f so c.args.source.now c.args.dir.now ≡ Err (untold_stop e)) e c.from_residual-in_err-script.result c.from_residual-in_err-script.ensures.1
     (λ told. begins_broken f so c.args.source.now c.args.dir.now e tells c.in_err-script.ensures.fault told)
 
 pub returns-in_err-begin-clause-fault : goal.returns-in_err-begin-clause-fault
 returns-in_err-begin-clause-fault c = λ f tells.
     let so = so_far c.args.state.now in
-    let r = c.in_err-begin.field-0 in
+    let r = c.in_err-begin.field-0.0 in
     exit_at (λ e. IsTold e → begins f so c.args.source.now c.args.dir.now ≡ Err (untold_stop e)) (of_refusal r) c.from_residual-in_err-begin.result c.from_residual-in_err-begin.ensures.1
     (λ told. begins_refused f so c.args.source.now c.args.dir.now (script_tree c.in_ok-script.script) r (of_refusal r) tells c.in_ok-script.ensures.ok refl c.in_err-begin.ensures.fault told)
 

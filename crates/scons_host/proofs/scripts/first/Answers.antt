@@ -16,7 +16,7 @@ returns-in-Some-clause-cause g c = inside_result _ _ c.first_begins.result c.in_
 pub returns-in_err-read-clause-fault : goal.returns-in_err-read-clause-fault
 returns-in_err-read-clause-fault g c = λ f s.
     let so = so_far c.args.state.now in
-    let e = c.in_err-read.field-0 in
+    let e = c.in_err-read.field-0.0 in
     exit_at (λ e. IsTold e → first f so c.args.path ≡ Err (untold_stop e)) e c.from_residual.result c.from_residual.ensures.1
     (λ told. first_unread f so c.args.path (untold_stop e) (c.in_err-read.ensures.fault f s told))
 

@@ -13,7 +13,7 @@ use Rattle.scons_host.proofs.scripts.go_on.Goals as goal
 pub returns-in_err-script-in-Some-clause-fault : goal.returns-in_err-script-in-Some-clause-fault
 returns-in_err-script-in-Some-clause-fault g c = λ f s.
     let so = so_far c.args.state.now in
-    let e = c.in_err-script-in-Some.field-0 in
+    let e = c.in_err-script-in-Some.field-0.0 in
     exit_at (λ e. IsTold e → go_on f so c.args.heap.now (waiting_of c.args.call) ≡ Err (untold_stop e)) e c.from_residual-in_err-script-in-Some.result c.from_residual-in_err-script-in-Some.ensures.1
     (λ told. stops_next f so c.args.heap.now (waiting_of c.args.call) (waiting_of c.next_file.new.call) c.in-Some.file (untold_stop e) c.in-Some.ensures (c.in_err-script-in-Some.ensures.fault f s told))
 
@@ -30,7 +30,7 @@ returns-in-Some-clause-ok g c = λ f s.
 pub returns-in_err-answer_of-in-None-clause-fault : goal.returns-in_err-answer_of-in-None-clause-fault
 returns-in_err-answer_of-in-None-clause-fault g c = λ f s.
     let so = so_far c.args.state.now in
-    let r = c.in_err-answer_of-in-None.field-0 in
+    let r = c.in_err-answer_of-in-None.field-0.0 in
     exit_at (λ e. IsTold e → go_on f so c.args.heap.now (waiting_of c.args.call) ≡ Err (untold_stop e)) (of_refusal r) c.from_residual-in_err-answer_of-in-None.result c.from_residual-in_err-answer_of-in-None.ensures.1
     (λ told. answers_badly f so c.args.heap.now (waiting_of c.args.call) (waiting_of c.next_file.new.call) r (of_refusal r) c.in-None.ensures refl c.in_err-answer_of-in-None.ensures.fault told)
 

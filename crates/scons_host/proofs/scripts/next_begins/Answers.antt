@@ -14,7 +14,7 @@ returns-in_err-place-clause-fault g c = λ f s.
     let so = so_far c.args.state.now in
     let call = waiting_of c.args.call.now in
     let file = c.args.file.now in
-    let r = c.in_err-place.field-0 in
+    let r = c.in_err-place.field-0.0 in
     exit_at (λ e. IsTold e → next_begins f so call file ≡ Err (untold_stop e)) (of_refusal r) c.from_residual-in_err-place.result c.from_residual-in_err-place.ensures.1
     (λ told. unfound f so call file r (of_refusal r) refl c.in_err-place.ensures.fault told)
 
@@ -23,7 +23,7 @@ returns-in_err-source-clause-fault g c = λ f s.
     let so = so_far c.args.state.now in
     let call = waiting_of c.args.call.now in
     let file = c.args.file.now in
-    let e = c.in_err-source.field-0 in
+    let e = c.in_err-source.field-0.0 in
     exit_at (λ e. IsTold e → next_begins f so call file ≡ Err (untold_stop e)) e c.from_residual-in_err-source.result c.from_residual-in_err-source.ensures.1
     (λ told. found_stops f so (so_far c.found.new.state) call file c.in_ok-place.place (untold_stop e) c.in_ok-place.ensures.ok (c.in_err-source.ensures.fault f s told))
 

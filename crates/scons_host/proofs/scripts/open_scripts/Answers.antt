@@ -13,7 +13,7 @@ pub returns-in_err-call-clause-fault : goal.returns-in_err-call-clause-fault
 returns-in_err-call-clause-fault g c = λ f s.
     let so = so_far c.args.state.now in
     let at = c.args.caller in
-    let r = c.in_err-call.field-0 in
+    let r = c.in_err-call.field-0.0 in
     exit_at (λ e. IsTold e → sconscript f so c.args.heap.now at.place at.locals.now at.globals.now c.args.env.0 c.args.files ≡ Err (untold_stop e)) (of_refusal r) c.from_residual.result c.from_residual.ensures.1
     (λ told. unopened f so c.args.heap.now at.place at.locals.now at.globals.now c.args.env.0 c.args.files r (of_refusal r) refl c.in_err-call.ensures.fault told)
 

@@ -11,4 +11,4 @@ pub returns-in-Err-At-clause-fault : goal.returns-in-Err-At-clause-fault
 returns-in-Err-At-clause-fault c =
     let source = c.args.source.now in
     broken_by source.path source.bytes c.in-Err-At.line (read.Parse c.in-Err-At.kind []) c.without_tree.result c.without_tree.ensures.there
-    (has_no_tree c.args.tokens.now c.in-Err-At.token c.requires c.in-Err-At.ensures.found)
+    (has_no_tree c.args.tokens.now c.in-Err-At.token c.requires (rw c.in-Err-At.field-0-is at c.in-Err-At.ensures.found))

@@ -11,4 +11,4 @@ pub returns-in-Err-At-clause-fault : goal.returns-in-Err-At-clause-fault
 returns-in-Err-At-clause-fault c =
     let source = c.args.source.now in
     broken_by source.path source.bytes c.in-Err-At.line (read.Lex c.in-Err-At.kind []) c.without_tokens.result c.without_tokens.ensures.there
-    (has_no_tokens (rw c.as_slice.ensures at c.in-Err-At.ensures.found))
+    (has_no_tokens (rw c.in-Err-At.field-0-is at (rw c.as_slice.ensures at c.in-Err-At.ensures.found)))
