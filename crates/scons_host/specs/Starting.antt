@@ -32,12 +32,12 @@ abbrev pub arguments : Objects → List (List ℕ × List ℕ) → OnHeap Value
 arguments h words = told_by of_value (arguments_given h words)
 
 -- what texts of scripts are read with at first: the nodes of no rule, from the top directory on, and no variant directory
-pub record AreFirst (top : List ℕ) (l : Locals) : Type 0 where
+pub record AreFirst (path : List ℕ) (l : Locals) : Type 0 where
   pub targets : l.targets.items ≡ []
   pub sources : l.sources.items ≡ []
   pub smartlink : l.smartlink ≡ codes "$CC"
   pub dir : l.dir ≡ codes "."
-  pub top : l.top ≡ top
+  pub top : l.top ≡ path
   pub variants : l.variants ≡ []
 
 -- nothing is declared

@@ -2,7 +2,7 @@ mod Alone
 mod Beginning
 mod Carrying
 mod Coming
-mod Faults
+mod OtherKinds
 mod Finding
 mod One
 mod Overs
