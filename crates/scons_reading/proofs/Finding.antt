@@ -1,20 +1,17 @@
 -- The files that are found: which of some is the first, and those of all that are wanted.
-use Rattle.std.proofs.Common.{◌≡◌, ◌<◌, ◌≤◌, ◌+◌, ◌∙◌, ◌++◌, ◌∷◌, [], arith, refl, sym, ap, subst, ℕ, Bool, true, false, List, Option, Some, None, length, map, drop, append-nil, append_assoc}
+use Rattle.std.proofs.Common.{◌≡◌, ◌<◌, ◌≤◌, ◌+◌, ◌∙◌, ◌++◌, ◌∷◌, [], arith, refl, sym, ap, subst, ℕ, Bool, true, false, List, Option, Some, None, length, map, drop, get_or, append-nil, append_assoc}
 use Rattle.std.specs.Prelude.{slice_get, unwrap_or, if◌then◌else◌}
 use Rattle.std.specs.List.{find, filter_map}
 use Rattle.std.specs.Option.{is_some}
-use Rattle.world_api.specs.declared.world.Kind.{Kind}
-use Rattle.world_api.specs.declared.world.Kind.TheVariants as kind
+use Rattle.std.proofs.lemmas.List.{drop_all}
+use Rattle.scons_rules.proofs.Stepping.{drop_next}
 use Rattle.std.specs.Prelude.{IsSome}
-use Rattle.scons_host.specs.Shown.{IsKindOf}
 use Rattle.scons_reading.specs.Graphs.{found}
 
 -- what is found at a path tells whether a file stands there
-pub is_there : (content : Option (List ℕ)) (k : Kind) → IsKindOf content k → k ≡ kind.File → true ≡ is_some content
-is_there (Some bytes) k found is = refl
-is_there None kind.File found is = absurd found
-is_there None kind.Dir found is = absurd cc
-is_there None kind.Absent found is = absurd cc
+pub is_there : (content : Option (List ℕ)) → IsSome content → true ≡ is_some content
+is_there (Some bytes) found = refl
+is_there None found = absurd found
 
 pub is_away : (content : Option (List ℕ)) → content ≡ None → false ≡ is_some content
 is_away content none = ap is_some (sym none)
@@ -46,3 +43,24 @@ found_first p xs rest x is passes = ap (find p) is ∙ ap (λ b. if b then Some 
 
 pub found_later : {X : Type 0} (p : X → Bool) (xs rest : List X) (x : X) → xs ≡ x ∷ rest → false ≡ p x → find p xs ≡ find p rest
 found_later p xs rest x is fails = ap (find p) is ∙ ap (λ b. if b then Some x else find p rest) (sym fails)
+
+-- the same over what is left of a list
+module _ {X : Type 0} (xs : List X) (i : ℕ) where
+  next : (x : X) → i < length xs → x ≡ get_or xs i x → drop i xs ≡ x ∷ drop (i + 1) xs
+  next x within at = drop_next xs i x within ∙ ap (λ y. y ∷ drop (i + 1) xs) (sym at)
+
+  pub found_step : (g : X → Option (List ℕ)) (x : X) (before now all : List (List ℕ)) → i < length xs → x ≡ get_or xs i x → all ≡ before ++ found (map g (drop i xs)) → now ≡ before ++ found (g x ∷ [])
+      → all ≡ now ++ found (map g (drop (i + 1) xs))
+  found_step g x before now all within at left one = found_next g (drop i xs) x (drop (i + 1) xs) before now all (next x within at) left one
+
+  pub found_end : (g : X → Option (List ℕ)) (now all : List (List ℕ)) → length xs ≤ i → all ≡ now ++ found (map g (drop i xs)) → now ≡ all
+  found_end g now all past left = found_all g (drop i xs) now all (drop_all i xs past) left
+
+  pub first_here : (p : X → Bool) (x : X) (all : Option X) → i < length xs → x ≡ get_or xs i x → true ≡ p x → all ≡ find p (drop i xs) → all ≡ Some x
+  first_here p x all within at passes left = left ∙ found_first p (drop i xs) (drop (i + 1) xs) x (next x within at) passes
+
+  pub first_later : (p : X → Bool) (x : X) (all : Option X) → i < length xs → x ≡ get_or xs i x → false ≡ p x → all ≡ find p (drop i xs) → all ≡ find p (drop (i + 1) xs)
+  first_later p x all within at fails left = left ∙ found_later p (drop i xs) (drop (i + 1) xs) x (next x within at) fails
+
+  pub first_none : (p : X → Bool) (all : Option X) → length xs ≤ i → all ≡ find p (drop i xs) → all ≡ None
+  first_none p all past left = left ∙ ap (find p) (drop_all i xs past)

@@ -2,7 +2,6 @@ mod Alone
 mod Beginning
 mod Carrying
 mod Coming
-mod OtherKinds
 mod Finding
 mod One
 mod Overs
