@@ -1,6 +1,6 @@
 -- What scripts come to over a world and a sink, they come to over the plain host of the files that stand around, unless the outside was at
 -- fault. What was printed before stands in front of what they print.
-use Rattle.std.proofs.Common.{◌≡◌, ◌≢◌, ◌≤◌, ◌∙◌, ◌++◌, arith, refl, sym, ap, subst, ℕ, Bool, true, false, List, [], Option, Some, None, Result, Ok, Err, length, drop, inl, inr}
+use Rattle.std.proofs.Common.{◌≡◌, ◌≢◌, ◌≤◌, ◌+◌, ◌∙◌, ◌++◌, arith, refl, sym, ap, subst, ℕ, Bool, true, false, List, [], Option, Some, None, Result, Ok, Err, length, drop, inl, inr}
 use Rattle.std.specs.Prelude.{if◌then◌else◌}
 use Rattle.std.proofs.Math.Seq.{drop-append_seam, drop-length}
 use Rattle.std.proofs.lemmas.List.{drop-append-le, length-append}
@@ -29,6 +29,7 @@ use Rattle.scons_host.specs.declared.end.ReadKind.{ReadKind}
 use Rattle.scons_host.specs.declared.end.ReadKind.TheVariants as read
 use Rattle.scons_host.specs.declared.kept.Kept.{Kept}
 use Rattle.scons_host.specs.Files.{Files}
+use Rattle.scons_host.specs.Lookups.{script_at}
 use Rattle.scons_host.specs.Plain.{Plain, plain, in_state, with_printed}
 use Rattle.scons_host.specs.Says as rules
 use Rattle.scons_host.specs.Says.{IsEnd, Comes, ComesBy}
@@ -58,7 +59,7 @@ kind_untold kind.Depth = refl
 kind_untold kind.Host = refl
 
 own_untold : (s : SoFar) (place : Place) (k : EvalKind) → untold_end (own_end s place k) ≡ own_end s place k
-own_untold s place k = ap (λ (w : ReadKind). end.Reading _ place.line w) (kind_untold k)
+own_untold s place k = ap (λ (w : ReadKind). end.Reading (script_at s place.script) place.line w) (kind_untold k)
 
 -- the end of a fault that was found, where the fault isn't the host's refusal
 pub own_stops : (f : Files) (b : Begun) (text : List ℕ) (s : SoFar) (kept : Option HostEnd) (place : Place) (k : EvalKind) → k ≢ kind.Host

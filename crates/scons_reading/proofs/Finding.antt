@@ -6,12 +6,14 @@ use Rattle.std.specs.Option.{is_some}
 use Rattle.std.proofs.lemmas.List.{drop_all}
 use Rattle.scons_rules.proofs.Stepping.{drop_next}
 use Rattle.std.specs.Prelude.{IsSome}
+use Rattle.world_api.specs.declared.world.Kind.{Kind}
+use Rattle.world_api.specs.declared.world.Kind.TheVariants as kind
+use Rattle.scons_host.specs.Shown.{IsKindOf}
 use Rattle.scons_reading.specs.Graphs.{found}
 
 -- what is found at a path tells whether a file stands there
-pub is_there : (content : Option (List ℕ)) → IsSome content → true ≡ is_some content
-is_there (Some bytes) found = refl
-is_there None found = absurd found
+pub is_there : (content : Option (List ℕ)) (k : Kind) → k ≡ kind.File → IsKindOf content k → true ≡ is_some content
+is_there content k is found = sym (subst (IsKindOf content) is found)
 
 pub is_away : (content : Option (List ℕ)) → content ≡ None → false ≡ is_some content
 is_away content none = ap is_some (sym none)

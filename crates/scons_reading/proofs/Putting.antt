@@ -48,9 +48,9 @@ then_ok (Ok x) y z e = cc
 then_ok (Err f) y z e = absurd cc
 
 pub within_still : (d : Declared) (n : ℕ) (l k : Locals) → n < length d.rules → IsWithin d l → (let made : Result Known RuleReadFault = Ok (known_of k) in begun d n (known_of l) ≡ made) → IsWithin d k
-within_still d n l k within is made =
+within_still d n l k within is comes =
     let rule = there d.rules n within in
-    let same = then_ok (may_stand d rule.0) _ (known_of k) (sym (begun_at d n (known_of l) rule.0 rule.1) ∙ made) in
+    let same = then_ok (may_stand d rule.0) _ (known_of k) (sym (begun_at d n (known_of l) rule.0 rule.1) ∙ comes) in
     record { top = sym (ap (λ (x : Known). x.top) same) ∙ is.top; variants = sym (ap (λ (x : Known). x.variants) same) ∙ is.variants }
 
 pub within_none : (d : Declared) (l : Locals) → known_of l ≡ of_no_rule d → IsWithin d l
@@ -58,7 +58,7 @@ within_none d l same = record { top = ap (λ (x : Known). x.top) same; variants 
 
 -- a fault of what a rule's lines know, and one of the libraries that it names
 pub no_libraries : (f : Files) (d : Declared) (n : ℕ) (g : PathGraph) (l : Locals) (e : RuleReadFault) → known_at d n ≡ Ok (known_of l) → libraries_of (standing_in f) d n l ≡ Err e → Adds f d n g (Err e)
-no_libraries f d n g l e knows no = known l knows (ap (λ (r : Result (List (Option (List ℕ))) RuleReadFault). and_then r (λ wanted. added d n l (found wanted) g)) no)
+no_libraries f d n g l e knows lacks = known l knows (ap (λ (r : Result (List (Option (List ℕ))) RuleReadFault). and_then r (λ wanted. added d n l (found wanted) g)) lacks)
 
 pub adds : (f : Files) (d : Declared) (n : ℕ) (g : PathGraph) (l : Locals) (wanted : List Wanted) (libraries : List (List ℕ)) (r : Result PathGraph RuleReadFault) → known_at d n ≡ Ok (known_of l)
     → libraries_of (standing_in f) d n l ≡ Ok (map (found_in (standing_in f)) wanted) → libraries ≡ found (map (found_in (standing_in f)) wanted) → added d n l libraries g ≡ r → Adds f d n g r

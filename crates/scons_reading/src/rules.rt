@@ -6,7 +6,8 @@ ghost use Rattle.scons_host.specs.Causes.{HasLookCause, IsInside};
 ghost use Rattle.scons_host.specs.Shown.{Shown, IsTold};
 ghost use Rattle.scons_reading.specs.Graphs as spec;
 ghost use Rattle.scons_reading.specs.Firsts.{is_file};
-ghost use Rattle.scons_rules.specs.Libraries.{found_in};
+ghost use Rattle.std.specs.List.{find};
+ghost use Rattle.scons_rules.specs.Libraries.{found_in, or_known};
 ghost use Rattle.scons_rules.specs.PathGraphs.{graph_by};
 ghost use Rattle.world_api.specs.Looks.{LooksAtFiles};
 ghost use Rattle.world_api.specs.Counts.{Counts};
@@ -14,10 +15,10 @@ ghost use Rattle.world_api.specs.Counts.{Counts};
 use crate::faults::{rule_stop, told};
 use crate::wanting::wanted;
 use rule_graph::Graph;
-use scons_base::{Listing, PathText, Paths};
+use scons_base::{Memory, PathText, Paths};
 use scons_decls::Declarations;
 use scons_host::{Stop, kind_of};
-use scons_rules::{RuleLocals, RuleReading, Wanted};
+use scons_rules::{AskedFile, RuleLocals, RuleReading, Wanted};
 use std::alloc::Global;
 use world_api::{Kind, World};
 
@@ -118,7 +119,7 @@ fn add<W: World>(
         Ok(wanted) => wanted,
         Err(fault) => return Err(rule_stop(reading, scripts, number, fault)),
     };
-    let libraries = found(alloc, world, &wanted)?;
+    let libraries = found(alloc, world, wanted.as_slice())?;
     match reading.add(number, locals, &libraries) {
         Ok(()) => Ok(()),
         Err(fault) => Err(rule_stop(reading, scripts, number, fault)),
@@ -127,7 +128,7 @@ fn add<W: World>(
 
 /// The libraries that are found.
 #[tactic(auto, using(scons_host::specs::Looking::looking))]
-fn found<W: World>(alloc: Global, world: &mut W, wanted: &Listing<Wanted>) -> Result<Paths, Stop>
+fn found<W: World>(alloc: Global, world: &mut W, wanted: &[Wanted]) -> Result<Paths, Stop>
     ensures looks { LooksAtFiles W.meaning world.old world.new }
     ensures cause { HasLookCause (W.meaning.counts world.old) (W.meaning.counts world.new) result }
     ensures ok { Shown W.meaning world.old world.new (λ f. IfOk result (λ libraries.
@@ -135,7 +136,7 @@ fn found<W: World>(alloc: Global, world: &mut W, wanted: &Listing<Wanted>) -> Re
     ensures untold { IfErr result (λ s. IsTold s → ⊥) }
 {
     let mut libraries = Paths::new(Vec::new(alloc));
-    for library in wanted.as_slice() {
+    for library in wanted {
         find(world, library, &mut libraries)?;
     }
     Ok(libraries)
@@ -150,30 +151,41 @@ fn find<W: World>(world: &mut W, wanted: &Wanted, libraries: &mut Paths) -> Resu
         (libraries.new ≡ libraries.old ++ spec.found (found_in (spec.standing_in f) wanted.now ∷ []))) }
     ensures untold { IfErr result (λ s. IsTold s → ⊥) }
 {
-    match first_found(world, wanted)? {
+    let known = copy_of(&wanted.known)?;
+    match first_found(world, wanted.asked.as_slice(), known)? {
         Some(library) => Ok(libraries.push(library)?),
         None => Ok(()),
     }
 }
 
-/// The first file that may be a library and stands, else the target that is one, if there is one.
+fn copy_of(path: &Option<PathText>) -> Result<Option<PathText>, Memory>
+    ensures { IfOk result (λ copy. copy ≡ path.now) }
+{
+    match path {
+        Some(path) => Ok(Some(path.copy()?)),
+        None => Ok(None),
+    }
+}
+
+/// The library of the first of these files that stands, else the known one.
 #[tactic(auto, using(scons_host::specs::Looking::looking))]
-fn first_found<W: World>(world: &mut W, wanted: &Wanted) -> Result<Option<PathText>, Stop>
+fn first_found<W: World>(
+    world: &mut W,
+    asked: &[AskedFile],
+    known: Option<PathText>,
+) -> Result<Option<PathText>, Stop>
     ensures looks { LooksAtFiles W.meaning world.old world.new }
     ensures cause { HasLookCause (W.meaning.counts world.old) (W.meaning.counts world.new) result }
     ensures ok { Shown W.meaning world.old world.new (λ f. IfOk result (λ library.
-        library ≡ found_in (spec.standing_in f) wanted.now)) }
+        library ≡ or_known known (find (λ a. is_file f a.file) asked.now))) }
     ensures untold { IfErr result (λ s. IsTold s → ⊥) }
 {
-    for asked in wanted.asked.as_slice() {
-        if is_file(world, &asked.file)? {
-            return Ok(Some(asked.library.copy()?));
+    for file in asked {
+        if is_file(world, &file.file)? {
+            return Ok(Some(file.library.copy()?));
         }
     }
-    match &wanted.known {
-        Some(known) => Ok(Some(known.copy()?)),
-        None => Ok(None),
-    }
+    Ok(known)
 }
 
 /// Whether a file stands at a path.
@@ -186,7 +198,8 @@ pub fn is_file<W: World>(world: &mut W, path: &PathText) -> Result<bool, Stop>
 {
     match kind_of(world, path) {
         Ok(Kind::File) => Ok(true),
-        Ok(Kind::Dir | Kind::Absent) => Ok(false),
+        Ok(Kind::Dir) => Ok(false),
+        Ok(Kind::Absent) => Ok(false),
         Err(_) => Err(Stop::tree(path)),
     }
 }

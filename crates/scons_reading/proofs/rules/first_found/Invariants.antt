@@ -5,10 +5,10 @@ use Rattle.scons_reading.specs.Firsts.{is_file}
 use Rattle.world_api.specs.Looks.{LooksAtFiles}
 use Rattle.scons_reading.proofs.rules.first_found.Given as goal
 
-abbrev pub invariant-loop-asked : goal.invariant-loop-asked
-invariant-loop-asked g l = record {
+abbrev pub invariant-loop-file : goal.invariant-loop-file
+invariant-loop-file g l = record {
   looks : LooksAtFiles g.W.Disk.meaning l.fn.world l.world;
   same : g.W.Disk.meaning.counts l.world ≡ g.W.Disk.meaning.counts l.fn.world;
   shown : Shown g.W.Disk.meaning l.fn.world l.world (λ f.
-      find (λ a. is_file f a.file) l.wanted.asked ≡ find (λ a. is_file f a.file) (drop l.asked-index l.wanted.asked));
+      find (λ a. is_file f a.file) l.asked ≡ find (λ a. is_file f a.file) (drop l.file-index l.asked));
 }

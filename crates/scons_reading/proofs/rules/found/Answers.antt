@@ -18,7 +18,7 @@ loop-library-preserved g c =
       looks = files_joined m c.args.world.now c.loop-library.world c.find.new.world there on;
       same = c.in_ok-find.ensures.cause ∙ c.loop-library.invariant.same;
       shown = λ f s.
-          found_step c.args.wanted.now c.loop-library.library-index (found_in (standing_in f)) c.library-item.result c.loop-library.libraries c.find.new.libraries _ c.loop-library.test c.library-item.is
+          found_step c.args.wanted.now c.loop-library.library-index (found_in (standing_in f)) c.library-item.result c.loop-library.libraries c.find.new.libraries _ (omega arith) c.library-item.is
           (c.loop-library.invariant.shown f (front m c.args.world.now c.loop-library.world c.find.new.world f on s))
           (c.in_ok-find.ensures.ok f (rest m c.args.world.now c.loop-library.world c.find.new.world f there on s));
     }

@@ -22,7 +22,7 @@ returns-in-Host c = record {
       let s = so_far c.args.state.now in
       let kept = c.args.kept.end in
       let first = subst (λ (e : EvalFault). IsFaultOf f b text s kept e) c.in-At.is was in
-      let second = subst (λ (k : EvalKind). StopsBy f b text s kept _ k) c.in-Host.is first in
+      let second = subst (λ (k : EvalKind). StopsBy f b text s kept (record { script = c.in-At.script; line = c.in-At.line }) k) c.in-Host.is first in
       subst (λ (k : Option HostEnd). StopsKept f b text k) (c.kept_end.ensures.told t) second t;
 }
 
@@ -37,5 +37,5 @@ returns-in_default c = record {
       let kept = c.args.kept.end in
       let first = subst (λ (e : EvalFault). IsFaultOf f b text s kept e) c.in-At.is was in
       let is = c.own_end.ensures.told t in
-      subst (λ (e : HostEnd). Runs f b (stops (untold_end e) text)) (sym is) (own_stops f b text s kept _ c.in-At.kind c.in_default.not-Host first tt);
+      subst (λ (e : HostEnd). Runs f b (stops (untold_end e) text)) (sym is) (own_stops f b text s kept (record { script = c.in-At.script; line = c.in-At.line }) c.in-At.kind c.in_default.not-Host first tt);
 }

@@ -8,7 +8,7 @@ use Rattle.scons_reading.proofs.wanting.wanted.Goals as goal
 
 pub returns-in_err-begin-clause-fault : goal.returns-in_err-begin-clause-fault
 returns-in_err-begin-clause-fault c =
-    let told = err_from_is_err_and c.from_residual.result c.from_residual.ensures in
+    let told = err_from_is_err_and c.from_residual.result c.from_residual.ensures.1 in
     rw told.1 (λ other f g. unknown (c.in_err-begin.ensures.fault (λ h. other (told.2 ∙ h)) ∙ ap Err (sym told.2)))
 
 pub returns-clause-fault : goal.returns-clause-fault
