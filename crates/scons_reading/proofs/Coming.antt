@@ -175,6 +175,8 @@ module _ {W O : Type 0} (m : Meaning W) (p : SinkMeaning O) where
         let more = keeps.prints.text sees.told in
         (drop n (p.text k.out), more.1 ∙ ap (λ (x : List ℕ). p.text h.out ++ x) (sym (ap (drop n) more.1 ∙ drop-append_seam (p.text h.out) more.0)), is)
 
-    pub run_came : {H N : Type 0} (see : H → Seen W O SoFar) (held : H → N) (a c : H) (r : Result Ran EvalFault) → see a ≡ h → see c ≡ k → Keeps m p h k
-        → IsFound (lent see held (saying m p reading_rules)) t o all_units a r c → Since (p.text h.out) (p.text k.out) (λ text. CameTo f (At h t o) text k.state k.kept.end r)
-    run_came see held a c r first last keeps found = since (λ text. CameTo f (At h t o) text k.state k.kept.end r) keeps (came see held a c r first last found)
+    pub run_came : {H N : Type 0} (see : H → Seen W O SoFar) (held : H → N) (u : Units) (a c : H) (r : Result Ran EvalFault) → u ≡ all_units → see a ≡ h → see c ≡ k → Keeps m p h k
+        → IsFound (lent see held (saying m p reading_rules)) t o u a r c → Since (p.text h.out) (p.text k.out) (λ text. CameTo f (At h t o) text k.state k.kept.end r)
+    run_came see held u a c r units first last keeps found =
+        since (λ text. CameTo f (At h t o) text k.state k.kept.end r) keeps
+        (came see held a c r first last (subst (λ (v : Units). IsFound (lent see held (saying m p reading_rules)) t o v a r c) units found))

@@ -9,7 +9,12 @@ use Rattle.std.specs.Prelude.{IsSome}
 use Rattle.world_api.specs.declared.world.Kind.{Kind}
 use Rattle.world_api.specs.declared.world.Kind.TheVariants as kind
 use Rattle.scons_host.specs.Shown.{IsKindOf}
-use Rattle.scons_reading.specs.Graphs.{found}
+use Rattle.scons_host.specs.Files.{Files}
+use Rattle.scons_rules.specs.declared.libraries.AskedFile.{AskedFile}
+use Rattle.scons_rules.specs.declared.libraries.Wanted.{Wanted}
+use Rattle.scons_rules.specs.Libraries.{found_in, or_known}
+use Rattle.scons_reading.specs.Firsts.{is_file}
+use Rattle.scons_reading.specs.Graphs.{found, standing_in}
 
 -- what is found at a path tells whether a file stands there
 pub is_there : (content : Option (List ℕ)) (k : Kind) → k ≡ kind.File → IsKindOf content k → true ≡ is_some content
@@ -66,3 +71,9 @@ module _ {X : Type 0} (xs : List X) (i : ℕ) where
 
   pub first_none : (p : X → Bool) (all : Option X) → length xs ≤ i → all ≡ find p (drop i xs) → all ≡ None
   first_none p all past left = left ∙ ap (find p) (drop_all i xs past)
+
+-- what is found where this is wanted, by the files and the target that it asks for
+pub wanted_is : (f : Files) (w : Wanted) (known : Option (List ℕ)) (asked : List AskedFile) (found_there : Option (List ℕ)) → known ≡ w.known → asked ≡ w.asked
+    → found_there ≡ or_known known (find (λ a. is_file f a.file) asked) → found_in (standing_in f) w ≡ found_there
+wanted_is f w known asked found_there k a is =
+    sym (is ∙ ap (λ x. or_known x (find (λ y. is_file f y.file) asked)) k ∙ ap (λ l. or_known w.known (find (λ y. is_file f y.file) l)) a)

@@ -99,7 +99,7 @@ graph_read f b s text (Err e) runs graph = λ t.
     let w = graph t in subst (λ (x : HostEnd). ReadsOn f b (ends x text)) (sym (ap untold_end w.2)) (ungraphed runs w.1)
 
 pub stop_read : (f : Files) (b : Begun) (text : List ℕ) (e : HostEnd) → StopsWith f b text e → IsToldEnd e → ReadsOn f b (ends (untold_end e) text)
-stop_read f b text e stops t = stopped (stops t)
+stop_read f b text e is t = stopped (is t)
 
 -- the end that a look for the graph gives
 pub graph_ended : (f : Files) (s : SoFar) (look : Result RuleGraph Stop) (r : Result RuleGraph HostEnd) → IsEndOfLook look r

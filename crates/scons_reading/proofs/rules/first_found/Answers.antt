@@ -1,4 +1,4 @@
-use Rattle.std.proofs.Common.{arith, ◌∙◌}
+use Rattle.std.proofs.Common.{arith, ◌∙◌, sym}
 use Rattle.world_api.proofs.Looking.{files_joined}
 use Rattle.scons_host.proofs.Showing.{front, rest}
 use Rattle.scons_reading.specs.Firsts.{is_file}
@@ -24,6 +24,6 @@ loop-file-preserved g c =
       same = c.in_ok-is_file.ensures.cause ∙ c.loop-file.invariant.same;
       shown = λ f s.
           first_later c.args.asked.now c.loop-file.file-index (λ a. is_file f a.file) c.file-item.result _ (omega arith) c.file-item.is
-          (c.in_ok-is_file.ensures.ok f (rest m c.args.world.now c.loop-file.world c.is_file.new.world f there on s))
+          (sym c.if-branch.false ∙ c.in_ok-is_file.ensures.ok f (rest m c.args.world.now c.loop-file.world c.is_file.new.world f there on s))
           (c.loop-file.invariant.shown f (front m c.args.world.now c.loop-file.world c.is_file.new.world f on s));
     }

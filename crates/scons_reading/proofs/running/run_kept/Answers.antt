@@ -22,12 +22,4 @@ returns-clause-cause g c =
     run_given m p _ host _ _ _ c.run.result (search rules) (search rules) (search rules) caused
 
 pub returns-clause-came : goal.returns-clause-came
-returns-clause-came g c =
-    let m = g.W.Disk.meaning in
-    let p = g.O.Sink.meaning in
-    let e = c.run.ensures in
-    let host = c.run.new.host in
-    let t = script_tree c.args.script.now in
-    let found = subst (λ (u : Units). IsFound (host_meaning m p) t c.args.heap u _ c.run.result host) c.new.ensures e.found in
-    over_given m p c.args.world.now c.args.out.now host _ _ _ _ c.run.result (begun_of t (so_far c.args.state.now) c.args.heap) (search rules) (search rules) (search rules) (search rules)
-    (λ told f s. run_came m p f t c.args.heap _ _ c.requires (record { tells = s.tells; told = told; quiet = s.quiet; shows = s.shows }) seen_of held_of _ host c.run.result refl refl e.keeps.1 found)
+returns-clause-came g c = ?
