@@ -151,8 +151,7 @@ fn find<W: World>(world: &mut W, wanted: &Wanted, libraries: &mut Paths) -> Resu
         (libraries.new ≡ libraries.old ++ spec.found (found_in (spec.standing_in f) wanted.now ∷ []))) }
     ensures untold { IfErr result (λ s. IsTold s → ⊥) }
 {
-    let known = copy_of(&wanted.known)?;
-    match first_found(world, wanted.asked.as_slice(), known)? {
+    match first_found(world, wanted.asked.as_slice(), &wanted.known)? {
         Some(library) => Ok(libraries.push(library)?),
         None => Ok(()),
     }
@@ -172,12 +171,12 @@ fn copy_of(path: &Option<PathText>) -> Result<Option<PathText>, Memory>
 fn first_found<W: World>(
     world: &mut W,
     asked: &[AskedFile],
-    known: Option<PathText>,
+    known: &Option<PathText>,
 ) -> Result<Option<PathText>, Stop>
     ensures looks { LooksAtFiles W.meaning world.old world.new }
     ensures cause { HasLookCause (W.meaning.counts world.old) (W.meaning.counts world.new) result }
     ensures ok { Shown W.meaning world.old world.new (λ f. IfOk result (λ library.
-        library ≡ or_known known (find (λ a. is_file f a.file) asked.now))) }
+        library ≡ or_known known.now (find (λ a. is_file f a.file) asked.now))) }
     ensures untold { IfErr result (λ s. IsTold s → ⊥) }
 {
     for file in asked {
@@ -185,7 +184,7 @@ fn first_found<W: World>(
             return Ok(Some(file.library.copy()?));
         }
     }
-    Ok(known)
+    Ok(copy_of(known)?)
 }
 
 /// Whether a file stands at a path.
