@@ -22,4 +22,12 @@ returns-clause-cause g c =
     run_given m p _ host _ _ _ c.run.result (search rules) (search rules) (search rules) caused
 
 pub returns-clause-came : goal.returns-clause-came
-returns-clause-came g c = ?
+returns-clause-came g c =
+    let m = g.W.Disk.meaning in
+    let p = g.O.Sink.meaning in
+    let e = c.run.ensures in
+    let host = c.run.new.host in
+    let t = script_tree c.args.script.now in
+    over_given m p c.args.world.now c.args.out.now host _ _ _ _ c.run.result (begun_of t (so_far c.args.state.now) c.args.heap) (search rules) (search rules) (search rules) (search rules)
+    (λ told f s. run_came m p f t c.args.heap (record { world = c.args.world.now; out = c.args.out.now; state = so_far c.args.state.now; kept = c.args.kept.now }) (seen_of host) c.requires
+    (record { tells = s.tells; told = told; quiet = s.quiet; shows = s.shows }) seen_of held_of c.new.result _ host c.run.result c.new.ensures refl refl e.keeps.1 e.found)
