@@ -10,5 +10,6 @@ pub mod Refusing
 pub mod Saying
 pub mod Scripting
 pub mod Showing
+pub mod Starting
 pub mod Stopping
 pub mod Turning

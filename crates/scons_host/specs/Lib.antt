@@ -23,6 +23,7 @@ pub mod Seeing
 pub mod Sharing
 pub mod Shown
 pub mod SoFar
+pub mod Starting
 pub mod Told
 pub mod Turns
 pub mod Untold

@@ -1,1 +1,11 @@
+mod Alone
+mod Beginning
 mod Carrying
+mod Coming
+mod Finding
+mod One
+mod Overs
+mod Putting
+mod Questions
+mod Sources
+mod Sufficing

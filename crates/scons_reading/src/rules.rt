@@ -1,14 +1,24 @@
 //! After all scripts: the declared rules go into the graph, and the world is asked which libraries are files.
-ghost use Rattle.std.specs.Prelude.{IfErr};
+ghost use Rattle.std.specs.Prelude.{◌≡◌, ◌<◌, ◌++◌, ◌∷◌, [], Ok, Err, IfOk, IfErr, OnOk, length, map};
+ghost use Rattle.rule_graph.specs.Graphs.{empty_graph};
+ghost use Rattle.scons_decls.specs.State.{declared_of};
 ghost use Rattle.scons_host.specs.Causes.{HasLookCause, IsInside};
+ghost use Rattle.scons_host.specs.Shown.{Shown, IsTold};
+ghost use Rattle.scons_reading.specs.Graphs as spec;
+ghost use Rattle.scons_reading.specs.Firsts.{is_file};
+ghost use Rattle.std.specs.List.{find};
+ghost use Rattle.scons_rules.specs.Libraries.{found_in, or_known};
+ghost use Rattle.scons_rules.specs.PathGraphs.{graph_by};
 ghost use Rattle.world_api.specs.Looks.{LooksAtFiles};
 ghost use Rattle.world_api.specs.Counts.{Counts};
 
+use crate::faults::{rule_stop, told};
+use crate::wanting::wanted;
 use rule_graph::Graph;
-use scons_base::{Listing, PathText, Paths};
-use scons_decls::{Declarations, NameFault, Place};
-use scons_host::{FirstRule, ReadKind, Stop, kind_of};
-use scons_rules::{RuleLocals, RuleReadFault, RuleReading, Wanted};
+use scons_base::{Memory, PathText, Paths};
+use scons_decls::Declarations;
+use scons_host::{Stop, kind_of};
+use scons_rules::{AskedFile, RuleLocals, RuleReading, Wanted};
 use std::alloc::Global;
 use world_api::{Kind, World};
 
@@ -22,6 +32,10 @@ pub fn graph_of<W: World>(
 ) -> Result<Graph, Stop>
     ensures looks { LooksAtFiles W.meaning world.old world.new }
     ensures cause { HasLookCause (W.meaning.counts world.old) (W.meaning.counts world.new) result }
+    ensures ok { Shown W.meaning world.old world.new (λ f. IfOk result (λ g.
+        spec.Graphs f (declared_of declared) scripts.now (Ok (graph_by g)))) }
+    ensures fault { Shown W.meaning world.old world.new (λ f. IfErr result (λ s. IsTold s →
+        spec.Graphs f (declared_of declared) scripts.now (Err s))) }
 {
     let mut reading = RuleReading::new(alloc, declared)?;
     let added = add_all(alloc, world, &mut reading, scripts);
@@ -31,6 +45,10 @@ pub fn graph_of<W: World>(
 /// The graph, where all rules were added.
 fn finished(reading: RuleReading, scripts: &Paths, added: Result<(), Stop>) -> Result<Graph, Stop>
     ensures cause { (old new : Counts) → HasLookCause old new added → HasLookCause old new result }
+    ensures ok { IfOk result (λ g. (added ≡ Ok tt)
+        × (spec.closed scripts.now reading.declared (graph_by reading.graph) ≡ Ok (graph_by g))) }
+    ensures fault { IfErr result (λ s. IsTold s →
+        spec.IsEndOfRules added (spec.closed scripts.now reading.declared (graph_by reading.graph)) s) }
 {
     match added {
         Ok(()) => made(reading, scripts),
@@ -40,7 +58,11 @@ fn finished(reading: RuleReading, scripts: &Paths, added: Result<(), Stop>) -> R
 
 /// The graph of the rules that were added.
 fn made(reading: RuleReading, scripts: &Paths) -> Result<Graph, Stop>
-    ensures { IfErr result IsInside }
+    ensures inside { IfErr result IsInside }
+    ensures ok { IfOk result (λ g.
+        spec.closed scripts.now reading.declared (graph_by reading.graph) ≡ Ok (graph_by g)) }
+    ensures fault { IfErr result (λ s. IsTold s →
+        spec.closed scripts.now reading.declared (graph_by reading.graph) ≡ Err s) }
 {
     match reading.finish() {
         Ok(graph) => Ok(graph),
@@ -56,8 +78,14 @@ fn add_all<W: World>(
     reading: &mut RuleReading,
     scripts: &Paths,
 ) -> Result<(), Stop>
+    requires { reading.old.graph ≡ empty_graph reading.old.declared.locals.top }
     ensures looks { LooksAtFiles W.meaning world.old world.new }
     ensures cause { HasLookCause (W.meaning.counts world.old) (W.meaning.counts world.new) result }
+    ensures ok { Shown W.meaning world.old world.new (λ f. OnOk result
+        (spec.Puts f reading.old.declared (length reading.old.declared.rules) (graph_by reading.new.graph))) }
+    ensures fault { Shown W.meaning world.old world.new (λ f. IfErr result (λ s. IsTold s →
+        spec.Graphs f reading.old.declared scripts.now (Err s))) }
+    ensures rest { reading.new.declared ≡ reading.old.declared }
 {
     let mut locals = reading.locals()?;
     for number in 0..reading.count() {
@@ -76,50 +104,39 @@ fn add<W: World>(
     number: usize,
     scripts: &Paths,
 ) -> Result<(), Stop>
+    requires there { number < length reading.old.declared.rules }
+    requires within { spec.IsWithin reading.old.declared locals.old }
     ensures looks { LooksAtFiles W.meaning world.old world.new }
     ensures cause { HasLookCause (W.meaning.counts world.old) (W.meaning.counts world.new) result }
+    ensures ok { Shown W.meaning world.old world.new (λ f. OnOk result
+        (spec.Adds f reading.old.declared number (graph_by reading.old.graph) (Ok (graph_by reading.new.graph)))) }
+    ensures fault { Shown W.meaning world.old world.new (λ f. IfErr result (λ s. IsTold s →
+        spec.IsRuleStop f reading.old.declared scripts.now number (graph_by reading.old.graph) s)) }
+    ensures rest { reading.new.declared ≡ reading.old.declared }
+    ensures still { OnOk result (spec.IsWithin reading.old.declared locals.new) }
 {
-    let place = reading.place(number);
     let wanted = match wanted(reading, locals, number) {
         Ok(wanted) => wanted,
-        Err(fault) => return Err(told(scripts, place, None, fault)),
+        Err(fault) => return Err(rule_stop(reading, scripts, number, fault)),
     };
-    let libraries = found(alloc, world, &wanted)?;
+    let libraries = found(alloc, world, wanted.as_slice())?;
     match reading.add(number, locals, &libraries) {
         Ok(()) => Ok(()),
-        Err(fault) => Err(told(scripts, place, first_rule(reading, &fault), fault)),
-    }
-}
-
-/// Begins a rule; the libraries that it names.
-fn wanted(
-    reading: &RuleReading,
-    locals: &mut RuleLocals,
-    number: usize,
-) -> Result<Listing<Wanted>, RuleReadFault> {
-    reading.begin(number, locals)?;
-    reading.wanted(number, locals)
-}
-
-/// Where the first rule of a target is declared that has two.
-fn first_rule(reading: &RuleReading, fault: &RuleReadFault) -> Option<Place> {
-    match fault {
-        RuleReadFault::Name(NameFault::TwoRules(target)) => reading.place_of_target(target),
-        RuleReadFault::Name(_)
-        | RuleReadFault::At(..)
-        | RuleReadFault::TooMany(..)
-        | RuleReadFault::Memory => None,
+        Err(fault) => Err(rule_stop(reading, scripts, number, fault)),
     }
 }
 
 /// The libraries that are found.
 #[tactic(auto, using(scons_host::specs::Looking::looking))]
-fn found<W: World>(alloc: Global, world: &mut W, wanted: &Listing<Wanted>) -> Result<Paths, Stop>
+fn found<W: World>(alloc: Global, world: &mut W, wanted: &[Wanted]) -> Result<Paths, Stop>
     ensures looks { LooksAtFiles W.meaning world.old world.new }
     ensures cause { HasLookCause (W.meaning.counts world.old) (W.meaning.counts world.new) result }
+    ensures ok { Shown W.meaning world.old world.new (λ f. IfOk result (λ libraries.
+        libraries ≡ spec.found (map (found_in (spec.standing_in f)) wanted.now))) }
+    ensures untold { IfErr result (λ s. IsTold s → ⊥) }
 {
     let mut libraries = Paths::new(Vec::new(alloc));
-    for library in wanted.as_slice() {
+    for library in wanted {
         find(world, library, &mut libraries)?;
     }
     Ok(libraries)
@@ -130,17 +147,44 @@ fn found<W: World>(alloc: Global, world: &mut W, wanted: &Listing<Wanted>) -> Re
 fn find<W: World>(world: &mut W, wanted: &Wanted, libraries: &mut Paths) -> Result<(), Stop>
     ensures looks { LooksAtFiles W.meaning world.old world.new }
     ensures cause { HasLookCause (W.meaning.counts world.old) (W.meaning.counts world.new) result }
+    ensures ok { Shown W.meaning world.old world.new (λ f. OnOk result
+        (libraries.new ≡ libraries.old ++ spec.found (found_in (spec.standing_in f) wanted.now ∷ []))) }
+    ensures untold { IfErr result (λ s. IsTold s → ⊥) }
 {
-    for asked in wanted.asked.as_slice() {
-        if is_file(world, &asked.file)? {
-            libraries.push(asked.library.copy()?)?;
-            return Ok(());
+    match first_found(world, wanted.asked.as_slice(), &wanted.known)? {
+        Some(library) => Ok(libraries.push(library)?),
+        None => Ok(()),
+    }
+}
+
+fn copy_of(path: &Option<PathText>) -> Result<Option<PathText>, Memory>
+    ensures { IfOk result (λ copy. copy ≡ path.now) }
+{
+    match path {
+        Some(path) => Ok(Some(path.copy()?)),
+        None => Ok(None),
+    }
+}
+
+/// The library of the first of these files that stands, else the known one.
+#[tactic(auto, using(scons_host::specs::Looking::looking))]
+fn first_found<W: World>(
+    world: &mut W,
+    asked: &[AskedFile],
+    known: &Option<PathText>,
+) -> Result<Option<PathText>, Stop>
+    ensures looks { LooksAtFiles W.meaning world.old world.new }
+    ensures cause { HasLookCause (W.meaning.counts world.old) (W.meaning.counts world.new) result }
+    ensures ok { Shown W.meaning world.old world.new (λ f. IfOk result (λ library.
+        library ≡ or_known known.now (find (λ a. is_file f a.file) asked.now))) }
+    ensures untold { IfErr result (λ s. IsTold s → ⊥) }
+{
+    for file in asked {
+        if is_file(world, &file.file)? {
+            return Ok(Some(file.library.copy()?));
         }
     }
-    if let Some(known) = &wanted.known {
-        libraries.push(known.copy()?)?;
-    }
-    Ok(())
+    Ok(copy_of(known)?)
 }
 
 /// Whether a file stands at a path.
@@ -148,50 +192,13 @@ fn find<W: World>(world: &mut W, wanted: &Wanted, libraries: &mut Paths) -> Resu
 pub fn is_file<W: World>(world: &mut W, path: &PathText) -> Result<bool, Stop>
     ensures looks { LooksAtFiles W.meaning world.old world.new }
     ensures cause { HasLookCause (W.meaning.counts world.old) (W.meaning.counts world.new) result }
+    ensures ok { Shown W.meaning world.old world.new (λ f. IfOk result (λ there. there ≡ is_file f path.now)) }
+    ensures untold { IfErr result (λ s. IsTold s → ⊥) }
 {
     match kind_of(world, path) {
-        Ok(kind) => Ok(kind == Kind::File),
+        Ok(Kind::File) => Ok(true),
+        Ok(Kind::Dir) => Ok(false),
+        Ok(Kind::Absent) => Ok(false),
         Err(_) => Err(Stop::tree(path)),
     }
-}
-
-/// The stop that a fault of a rule is, on the line of the call that declared it. `first` is where the target's first rule is.
-fn told(scripts: &Paths, place: Option<Place>, first: Option<Place>, fault: RuleReadFault) -> Stop
-    ensures { IsInside result }
-{
-    let (place, fault) = match fault {
-        RuleReadFault::Name(fault) => (place, fault),
-        RuleReadFault::At(place, fault) => (Some(place), fault),
-        RuleReadFault::TooMany(what, count) => return Stop::TooMany(what, count),
-        RuleReadFault::Memory => return Stop::Memory,
-    };
-    let Some(place) = place else {
-        return Stop::Here(ReadKind::Name(fault));
-    };
-    let kind = kind_of_rule(scripts, place, first, fault);
-    match script_at(scripts, place.script) {
-        Some(script) => Stop::There(script, place.line, kind),
-        None => Stop::Memory,
-    }
-}
-
-/// The kind of a fault of a rule that is declared at a place.
-fn kind_of_rule(scripts: &Paths, place: Place, first: Option<Place>, fault: NameFault) -> ReadKind {
-    match (fault, first) {
-        (NameFault::TwoRules(target), Some(first)) => {
-            let script = if first.script == place.script {
-                None
-            } else {
-                script_at(scripts, first.script)
-            };
-            let line = first.line;
-            ReadKind::TwoRules(target, FirstRule { line, script })
-        }
-        (fault, _) => ReadKind::Name(fault),
-    }
-}
-
-fn script_at(scripts: &Paths, number: u64) -> Option<PathText> {
-    let path = scripts.as_slice().get(number as usize)?;
-    path.copy().ok()
 }

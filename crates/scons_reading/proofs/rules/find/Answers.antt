@@ -1,21 +1,16 @@
-use Rattle.std.proofs.Common.{◌∙◌}
-use Rattle.world_api.proofs.Looking.{files_joined}
+use Rattle.std.proofs.Common.{refl, ◌∙◌}
+use Rattle.scons_reading.specs.Graphs.{standing_in}
+use Rattle.scons_rules.specs.Libraries.{found_in}
+use Rattle.scons_reading.proofs.Finding.{one_found, none_found, wanted_is}
 use Rattle.scons_reading.proofs.rules.find.Goals as goal
 
-pub returns-in_err-is_file-clause-looks : goal.returns-in_err-is_file-clause-looks
-returns-in_err-is_file-clause-looks g c = files_joined g.W.Disk.meaning c.args.world.now c.loop-asked.world c.is_file.new.world c.loop-asked.invariant.looks c.is_file.ensures.looks
+pub returns-in_ok-push-in-Some-clause-ok : goal.returns-in_ok-push-in-Some-clause-ok
+returns-in_ok-push-in-Some-clause-ok g c = λ f s.
+    one_found c.args.libraries.now c.push.new.self c.in-Some.library (found_in (standing_in f) c.args.wanted.now)
+    (wanted_is f c.args.wanted.now c.args.wanted.now.known c.as_slice.result.now c.in_ok-library.field-0 refl c.as_slice.ensures (c.in_ok-library.ensures.ok f s) ∙ c.in-Some.is)
+    c.in_ok-push-in-Some.ensures.ok
 
-pub returns-in_err-copy-clause-looks : goal.returns-in_err-copy-clause-looks
-returns-in_err-copy-clause-looks g c = files_joined g.W.Disk.meaning c.args.world.now c.loop-asked.world c.is_file.new.world c.loop-asked.invariant.looks c.is_file.ensures.looks
-
-pub returns-in_err-push-clause-looks : goal.returns-in_err-push-clause-looks
-returns-in_err-push-clause-looks g c = files_joined g.W.Disk.meaning c.args.world.now c.loop-asked.world c.is_file.new.world c.loop-asked.invariant.looks c.is_file.ensures.looks
-
-pub returns-then-branch-clause-looks : goal.returns-then-branch-clause-looks
-returns-then-branch-clause-looks g c = files_joined g.W.Disk.meaning c.args.world.now c.loop-asked.world c.is_file.new.world c.loop-asked.invariant.looks c.is_file.ensures.looks
-
-pub loop-asked-preserved : goal.loop-asked-preserved
-loop-asked-preserved g c = record {
-  looks = files_joined g.W.Disk.meaning c.args.world.now c.loop-asked.world c.is_file.new.world c.loop-asked.invariant.looks c.is_file.ensures.looks;
-  same = c.in_ok-is_file.ensures.cause ∙ c.loop-asked.invariant.same;
-}
+pub returns-in-None-clause-ok : goal.returns-in-None-clause-ok
+returns-in-None-clause-ok g c = λ f s.
+    none_found c.args.libraries.now (found_in (standing_in f) c.args.wanted.now)
+    (wanted_is f c.args.wanted.now c.args.wanted.now.known c.as_slice.result.now c.in_ok-library.field-0 refl c.as_slice.ensures (c.in_ok-library.ensures.ok f s) ∙ c.in-None.is)
