@@ -18,7 +18,7 @@ use crate::end::ReadKind;
 use crate::open::OpenCall;
 use crate::scopes::{one_or_tuple, put_exports};
 use crate::sources::{Source, read, script_of, standing};
-use crate::state::State;
+use crate::state::{State, top_dir};
 use crate::stop::{Refusal, Stop, bad_argument};
 use py_heap::{Heap, Value};
 use py_host::{Reply, Scope};
@@ -360,15 +360,5 @@ fn no_first(path: PathText) -> Stop
     match path.copy() {
         Ok(copy) => Stop::There(path, 0, ReadKind::NoScript(copy)),
         Err(_) => Stop::Memory,
-    }
-}
-
-/// The top directory, as a path.
-fn top_dir(alloc: Global) -> Result<PathText, Memory>
-    ensures { IfOk result (λ dir. dir ≡ codes ".") }
-{
-    match PathText::read(alloc, ".") {
-        Ok(dir) => Ok(dir),
-        Err(_) => Err(Memory),
     }
 }
