@@ -10,6 +10,5 @@ pub mod Refusing
 pub mod Saying
 pub mod Scripting
 pub mod Showing
-pub mod Starting
 pub mod Stopping
 pub mod Turning
