@@ -69,3 +69,14 @@ same_told refusal.Memory = refl
 pub word_refused : (f : Files) (w : Words) (r : Refusal) (s : Stop) → s ≡ of_refusal r → (r ≢ refusal.Memory → arguments no_objects w.arguments ≡ Err r) → IsTold s → BeginsNot f w (untold_stop s)
 word_refused f w (refusal.Kind kind) s is gives told = bad_word (gives (λ e. cc)) (ap untold_stop is ∙ same_told (refusal.Kind kind))
 word_refused f w refusal.Memory s is gives told = absurd (subst IsTold is told)
+
+-- a first script, by its path and what was read so far
+pub first_so : (f : Files) (a b : SoFar) (p q : List ℕ) (r : Result Script Stop) (t : SoFar) → a ≡ b → p ≡ q → IfOk r (λ x. first f a p ≡ Ok (script_tree x, t)) → IfOk r (λ x. first f b q ≡ Ok (script_tree x, t))
+first_so f a b p q r t same at is =
+    subst (λ (s : SoFar). IfOk r (λ x. first f s q ≡ Ok (script_tree x, t))) same
+    (subst (λ (path : List ℕ). IfOk r (λ x. first f a path ≡ Ok (script_tree x, t))) at is)
+
+pub first_not : (f : Files) (a b : SoFar) (p q : List ℕ) (r : Result Script Stop) → a ≡ b → p ≡ q → IfErr r (λ e. IsTold e → first f a p ≡ Err (untold_stop e)) → IfErr r (λ e. IsTold e → first f b q ≡ Err (untold_stop e))
+first_not f a b p q r same at is =
+    subst (λ (s : SoFar). IfErr r (λ e. IsTold e → first f s q ≡ Err (untold_stop e))) same
+    (subst (λ (path : List ℕ). IfErr r (λ e. IsTold e → first f a path ≡ Err (untold_stop e))) at is)

@@ -1,9 +1,9 @@
 -- The files that are found: which of some is the first, and those of all that are wanted.
-use Rattle.std.proofs.Common.{◌≡◌, ◌<◌, ◌≤◌, ◌+◌, ◌∙◌, ◌++◌, ◌∷◌, [], arith, refl, sym, ap, subst, ℕ, Bool, true, false, List, Option, Some, None, length, map, drop, get_or, append-nil, append_assoc}
+use Rattle.std.proofs.Common.{Bor, ◌≡◌, ◌<◌, ◌≤◌, ◌+◌, ◌∙◌, ◌++◌, ◌∷◌, [], arith, refl, sym, ap, subst, ℕ, Bool, true, false, List, Option, Some, None, length, map, drop, get_or, append-nil, append_assoc}
 use Rattle.std.specs.Prelude.{slice_get, unwrap_or, if◌then◌else◌}
 use Rattle.std.specs.List.{find, filter_map}
 use Rattle.std.specs.Option.{is_some}
-use Rattle.std.proofs.lemmas.List.{drop_all}
+use Rattle.std.proofs.lemmas.List.{drop_all, get_or-map, length-map}
 use Rattle.scons_rules.proofs.Stepping.{drop_next}
 use Rattle.std.specs.Prelude.{IsSome}
 use Rattle.world_api.specs.declared.world.Kind.{Kind}
@@ -77,3 +77,25 @@ pub wanted_is : (f : Files) (w : Wanted) (known : Option (List ℕ)) (asked : Li
     → found_there ≡ or_known known (find (λ a. is_file f a.file) asked) → found_in (standing_in f) w ≡ found_there
 wanted_is f w known asked found_there k a is =
     sym (is ∙ ap (λ x. or_known x (find (λ y. is_file f y.file) asked)) k ∙ ap (λ l. or_known w.known (find (λ y. is_file f y.file) l)) a)
+
+-- the same of texts that are lent
+abbrev texts : List (Bor (List ℕ)) → List (List ℕ)
+texts words = map (λ (w : Bor (List ℕ)). w.now) words
+
+module _ (words : List (Bor (List ℕ))) (i : ℕ) (d : Bor (List ℕ)) (path : List ℕ) (p : List ℕ → Bool) (at : path ≡ (get_or words i d).now) (within : i < length words) where
+  name_next : drop i (texts words) ≡ path ∷ drop (i + 1) (texts words)
+  name_next =
+      let inside : i < length (texts words) = omega (arith, length-map words (λ (w : Bor (List ℕ)). w.now)) in
+      drop_next (texts words) i path inside
+      ∙ ap (λ x. x ∷ drop (i + 1) (texts words)) (get_or-map (λ (w : Bor (List ℕ)). w.now) words i d path within ∙ sym at)
+
+  pub name_stands : true ≡ p path → find p (texts words) ≡ find p (drop i (texts words)) → find p (texts words) ≡ Some path
+  name_stands passes left = left ∙ found_first p (drop i (texts words)) (drop (i + 1) (texts words)) path name_next passes
+
+  pub name_missing : false ≡ p path → find p (texts words) ≡ find p (drop i (texts words)) → find p (texts words) ≡ find p (drop (i + 1) (texts words))
+  name_missing fails left = left ∙ found_later p (drop i (texts words)) (drop (i + 1) (texts words)) path name_next fails
+
+pub name_none : (words : List (Bor (List ℕ))) (i : ℕ) (p : List ℕ → Bool) → length words ≤ i → find p (texts words) ≡ find p (drop i (texts words)) → find p (texts words) ≡ None
+name_none words i p past left =
+    let outside : length (texts words) ≤ i = omega (arith, length-map words (λ (w : Bor (List ℕ)). w.now)) in
+    left ∙ ap (find p) (drop_all i (texts words) outside)

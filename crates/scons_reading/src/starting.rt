@@ -1,5 +1,6 @@
 //! The first script: which it is, and what stands as it begins.
-ghost use Rattle.std.specs.Prelude.{◌≡◌, ◌++◌, Ok, Err, IfOk, IfErr, OnOk};
+ghost use Rattle.std.specs.Prelude.{◌≡◌, Ok, Err, IfOk, IfErr, OnOk, map};
+ghost use Rattle.std.specs.List.{find};
 ghost use Rattle.py_heap.specs.Heap.{no_objects};
 ghost use Rattle.py_tree.specs.Tree.{script_tree};
 ghost use Rattle.scons_host.specs.Causes.{HasStopCause, HasLookCause};
@@ -138,7 +139,7 @@ fn named(state: &mut State, path: &PathText, further: &[PathText]) -> Result<Pat
     path.copy()
 }
 
-/// The first of the names of first scripts that is a file, or the first of all where none is.
+/// The first of the names of first scripts at which a file stands, or the first of all where none does.
 #[tactic(auto, using(scons_host::specs::Looking::looking))]
 fn standing<W: World>(alloc: Global, world: &mut W) -> Result<PathText, Stop>
     ensures looks { LooksAtFiles W.meaning world.old world.new }
@@ -146,11 +147,30 @@ fn standing<W: World>(alloc: Global, world: &mut W) -> Result<PathText, Stop>
     ensures ok { Shown W.meaning world.old world.new (λ f. IfOk result (λ path. path ≡ spec.standing f)) }
     ensures untold { IfErr result (λ s. IsTold s → ⊥) }
 {
-    for name in FIRST {
+    match file_among(alloc, world, &FIRST)? {
+        Some(path) => Ok(path),
+        None => Ok(read_path(alloc, FIRST[0])?),
+    }
+}
+
+/// The first of some names at which a file stands.
+#[tactic(auto, using(scons_host::specs::Looking::looking))]
+fn file_among<W: World>(
+    alloc: Global,
+    world: &mut W,
+    names: &[&str],
+) -> Result<Option<PathText>, Stop>
+    ensures looks { LooksAtFiles W.meaning world.old world.new }
+    ensures cause { HasLookCause (W.meaning.counts world.old) (W.meaning.counts world.new) result }
+    ensures ok { Shown W.meaning world.old world.new (λ f. IfOk result (λ path.
+        path ≡ find (spec.is_file f) (map (λ n. n.now) names.now))) }
+    ensures untold { IfErr result (λ s. IsTold s → ⊥) }
+{
+    for name in names {
         let path = read_path(alloc, name)?;
         if is_file(world, &path)? {
-            return Ok(path);
+            return Ok(Some(path));
         }
     }
-    Ok(read_path(alloc, FIRST[0])?)
+    Ok(None)
 }

@@ -1,5 +1,11 @@
-use Rattle.world_api.proofs.Looking.{files_joined}
+use Rattle.std.proofs.Common.{subst, Result, Ok, ◌≡◌}
+use Rattle.py_heap.specs.Heap.{Objects}
 use Rattle.scons_host.specs.Laws.{look_back}
+use Rattle.scons_host.specs.SoFar.{so_far}
+use Rattle.scons_host.specs.Starting.{arguments}
+use Rattle.scons_host.proofs.Showing.{front, rest}
+use Rattle.scons_reading.proofs.Beginning.{begins_so, begins_not, joined_so, joined_not, word_refused}
+use Rattle.world_api.proofs.Looking.{files_joined}
 use Rattle.scons_reading.proofs.starting.begun.Goals as goal
 
 pub returns-clause-looks : goal.returns-clause-looks
@@ -9,4 +15,37 @@ pub returns-clause-cause : goal.returns-clause-cause
 returns-clause-cause g c =
     let m = g.W.Disk.meaning in
     let was = look_back (m.counts c.args.world.now) (m.counts c.top_path.new.world) (m.counts c.first_script-script.new.world) c.first_script-script.result c.in_ok-top.ensures.cause c.first_script-script.ensures.cause in
-    c.joined.ensures (m.counts c.args.world.now) (m.counts c.first_script-script.new.world) was
+    c.joined.ensures.cause (m.counts c.args.world.now) (m.counts c.first_script-script.new.world) was
+
+pub returns-clause-ok : goal.returns-clause-ok
+returns-clause-ok g c = λ f s.
+    let m = g.W.Disk.meaning in
+    let there = c.top_path.ensures.looks in
+    let on = c.first_script-script.ensures.looks in
+    let w = c.args.words.now in
+    let state = c.in_ok-state.state in
+    let heap = c.new.new.heap in
+    let after = c.first_script-script.new.state in
+    joined_so f w heap c.joined.result after c.first_script-script.result c.joined.ensures.ok
+    (begins_so f w c.in_ok-top.top state.declared.locals state.arguments heap (so_far state)
+    (c.in_ok-top.ensures.ok f (front m c.args.world.now c.top_path.new.world c.first_script-script.new.world f on s))
+    c.in_ok-state.ensures.locals
+    (subst (λ (h : Objects). arguments h w.arguments ≡ Ok (state.arguments, heap)) c.requires c.in_ok-state.ensures.arguments)
+    c.in_ok-state.ensures.state (so_far after) c.first_script-script.result
+    (c.first_script-script.ensures.ok f (rest m c.args.world.now c.top_path.new.world c.first_script-script.new.world f there on s)))
+
+pub returns-clause-fault : goal.returns-clause-fault
+returns-clause-fault g c = λ f s.
+    let m = g.W.Disk.meaning in
+    let there = c.top_path.ensures.looks in
+    let on = c.first_script-script.ensures.looks in
+    let w = c.args.words.now in
+    let state = c.in_ok-state.state in
+    let heap = c.new.new.heap in
+    joined_not f w c.joined.result c.first_script-script.result c.joined.ensures.fault
+    (begins_not f w c.in_ok-top.top state.declared.locals state.arguments heap (so_far state)
+    (c.in_ok-top.ensures.ok f (front m c.args.world.now c.top_path.new.world c.first_script-script.new.world f on s))
+    c.in_ok-state.ensures.locals
+    (subst (λ (h : Objects). arguments h w.arguments ≡ Ok (state.arguments, heap)) c.requires c.in_ok-state.ensures.arguments)
+    c.in_ok-state.ensures.state c.first_script-script.result
+    (c.first_script-script.ensures.fault f (rest m c.args.world.now c.top_path.new.world c.first_script-script.new.world f there on s)))

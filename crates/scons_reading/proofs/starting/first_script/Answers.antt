@@ -1,5 +1,10 @@
 use Rattle.world_api.proofs.Looking.{files_joined}
 use Rattle.scons_host.specs.Laws.{look_back}
+use Rattle.scons_host.specs.SoFar.{so_far}
+use Rattle.scons_host.proofs.Showing.{front, rest}
+use Rattle.scons_reading.specs.Beginning.{with_further}
+use Rattle.scons_reading.specs.Firsts.{first_of}
+use Rattle.scons_reading.proofs.Beginning.{first_so, first_not}
 use Rattle.scons_reading.proofs.starting.first_script.Goals as goal
 
 pub returns-clause-looks : goal.returns-clause-looks
@@ -9,3 +14,23 @@ pub returns-clause-cause : goal.returns-clause-cause
 returns-clause-cause g c =
     let m = g.W.Disk.meaning in
     look_back (m.counts c.args.world.now) (m.counts c.first_path.new.world) (m.counts c.first.new.world) c.first.result c.in_ok-path.ensures.cause c.first.ensures.cause
+
+pub returns-clause-ok : goal.returns-clause-ok
+returns-clause-ok g c = λ f s.
+    let m = g.W.Disk.meaning in
+    let there = c.first_path.ensures.looks in
+    let on = c.first.ensures.looks in
+    let scripts = c.args.words.now.scripts in
+    first_so f (so_far c.first_path.new.state) (with_further scripts (so_far c.args.state.now)) c.in_ok-path.path (first_of f scripts) c.first.result (so_far c.first.new.state) c.in_ok-path.ensures.state
+    (c.in_ok-path.ensures.ok f (front m c.args.world.now c.first_path.new.world c.first.new.world f on s))
+    (c.first.ensures.ok f (rest m c.args.world.now c.first_path.new.world c.first.new.world f there on s))
+
+pub returns-clause-fault : goal.returns-clause-fault
+returns-clause-fault g c = λ f s.
+    let m = g.W.Disk.meaning in
+    let there = c.first_path.ensures.looks in
+    let on = c.first.ensures.looks in
+    let scripts = c.args.words.now.scripts in
+    first_not f (so_far c.first_path.new.state) (with_further scripts (so_far c.args.state.now)) c.in_ok-path.path (first_of f scripts) c.first.result c.in_ok-path.ensures.state
+    (c.in_ok-path.ensures.ok f (front m c.args.world.now c.first_path.new.world c.first.new.world f on s))
+    (c.first.ensures.fault f (rest m c.args.world.now c.first_path.new.world c.first.new.world f there on s))
