@@ -3,9 +3,5 @@ mod Beginning
 mod Carrying
 mod Coming
 mod Finding
-mod One
 mod Overs
 mod Putting
-mod Questions
-mod Sources
-mod Sufficing

@@ -5,4 +5,3 @@ pub mod Firsts
 pub mod Graphs
 pub mod Reads
 pub mod Running
-pub mod Sources

@@ -1,9 +1,14 @@
-use Rattle.std.proofs.Common.{subst, Result, Ok, ◌≡◌}
+use Rattle.std.proofs.Common.{subst, refl, Ok, Err, ◌≡◌}
 use Rattle.py_heap.specs.Heap.{Objects}
 use Rattle.scons_host.specs.Laws.{look_back}
+use Rattle.scons_host.specs.Refusals.{of_refusal}
+use Rattle.scons_host.specs.Shown.{IsTold}
 use Rattle.scons_host.specs.SoFar.{so_far}
 use Rattle.scons_host.specs.Starting.{arguments}
+use Rattle.scons_host.specs.Untold.{untold_stop}
+use Rattle.scons_host.proofs.Scripting.{exit_at}
 use Rattle.scons_host.proofs.Showing.{front, rest}
+use Rattle.scons_reading.specs.Beginning.{BeginsNot}
 use Rattle.scons_reading.proofs.Beginning.{begins_so, begins_not, joined_so, joined_not, word_refused}
 use Rattle.world_api.proofs.Looking.{files_joined}
 use Rattle.scons_reading.proofs.starting.begun.Goals as goal
@@ -49,3 +54,15 @@ returns-clause-fault g c = λ f s.
     (subst (λ (h : Objects). arguments h w.arguments ≡ Ok (state.arguments, heap)) c.requires c.in_ok-state.ensures.arguments)
     c.in_ok-state.ensures.state c.first_script-script.result
     (c.first_script-script.ensures.fault f (rest m c.args.world.now c.top_path.new.world c.first_script-script.new.world f there on s)))
+
+pub returns-in_err-top-clause-fault : goal.returns-in_err-top-clause-fault
+returns-in_err-top-clause-fault g c = λ f s.
+    exit_at (λ e. IsTold e → BeginsNot f c.args.words.now (untold_stop e)) c.in_err-top.field-0.0 c.from_residual.result c.from_residual.ensures.1
+    (λ told. absurd (c.in_err-top.ensures.untold told))
+
+pub returns-in_err-state-clause-fault : goal.returns-in_err-state-clause-fault
+returns-in_err-state-clause-fault g c = λ f s.
+    let w = c.args.words.now in
+    let r = c.in_err-state.field-0.0 in
+    exit_at (λ e. IsTold e → BeginsNot f w (untold_stop e)) (of_refusal r) c.from_residual-in_err-state.result c.from_residual-in_err-state.ensures.1
+    (word_refused f w r (of_refusal r) refl (λ other. subst (λ (h : Objects). arguments h w.arguments ≡ Err r) c.requires (c.in_err-state.ensures.fault other)))

@@ -1,6 +1,11 @@
+use Rattle.std.proofs.Common.{◌≡◌, Err}
 use Rattle.world_api.proofs.Looking.{files_joined}
 use Rattle.scons_host.specs.Laws.{look_back}
+use Rattle.scons_host.specs.Scripts.{first}
+use Rattle.scons_host.specs.Shown.{IsTold}
 use Rattle.scons_host.specs.SoFar.{so_far}
+use Rattle.scons_host.specs.Untold.{untold_stop}
+use Rattle.scons_host.proofs.Scripting.{exit_at}
 use Rattle.scons_host.proofs.Showing.{front, rest}
 use Rattle.scons_reading.specs.Beginning.{with_further}
 use Rattle.scons_reading.specs.Firsts.{first_of}
@@ -34,3 +39,9 @@ returns-clause-fault g c = λ f s.
     first_not f (so_far c.first_path.new.state) (with_further scripts (so_far c.args.state.now)) c.in_ok-path.path (first_of f scripts) c.first.result c.in_ok-path.ensures.state
     (c.in_ok-path.ensures.ok f (front m c.args.world.now c.first_path.new.world c.first.new.world f on s))
     (c.first.ensures.fault f (rest m c.args.world.now c.first_path.new.world c.first.new.world f there on s))
+
+pub returns-in_err-path-clause-fault : goal.returns-in_err-path-clause-fault
+returns-in_err-path-clause-fault g c = λ f s.
+    let scripts = c.args.words.now.scripts in
+    exit_at (λ e. IsTold e → first f (with_further scripts (so_far c.args.state.now)) (first_of f scripts) ≡ Err (untold_stop e)) c.in_err-path.field-0.0 c.from_residual.result c.from_residual.ensures.1
+    (λ told. absurd (c.in_err-path.ensures.untold told))
