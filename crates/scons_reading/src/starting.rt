@@ -108,21 +108,25 @@ fn first_script<W: World>(state: &mut State, world: &mut W, words: &Words) -> Re
         first f (with_further words.now.scripts (so_far state.old)) (spec.first_of f words.now.scripts)
         ≡ Err (untold_stop s))) }
 {
-    let path = first_path(state, world, words)?;
+    let path = first_path(state, world, words.scripts.as_slice())?;
     first(state, world, path)
 }
 
 /// The path of the first script, with those behind it put where they wait.
 #[tactic(auto, using(scons_host::specs::Looking::looking))]
-fn first_path<W: World>(state: &mut State, world: &mut W, words: &Words) -> Result<PathText, Stop>
+fn first_path<W: World>(
+    state: &mut State,
+    world: &mut W,
+    scripts: &[PathText],
+) -> Result<PathText, Stop>
     ensures looks { LooksAtFiles W.meaning world.old world.new }
     ensures cause { HasLookCause (W.meaning.counts world.old) (W.meaning.counts world.new) result }
     ensures ok { Shown W.meaning world.old world.new (λ f. IfOk result (λ path.
-        path ≡ spec.first_of f words.now.scripts)) }
-    ensures state { OnOk result (so_far state.new ≡ with_further words.now.scripts (so_far state.old)) }
+        path ≡ spec.first_of f scripts.now)) }
+    ensures state { OnOk result (so_far state.new ≡ with_further scripts.now (so_far state.old)) }
     ensures untold { IfErr result (λ s. IsTold s → ⊥) }
 {
-    match words.scripts.as_slice() {
+    match scripts {
         [] => standing(state.alloc, world),
         [path, further @ ..] => Ok(named(state, path, further)?),
     }

@@ -1,4 +1,4 @@
-use Rattle.std.proofs.Common.{◌≡◌, Err}
+use Rattle.std.proofs.Common.{◌≡◌, ◌∙◌, ap, ℕ, List, Err}
 use Rattle.world_api.proofs.Looking.{files_joined}
 use Rattle.scons_host.specs.Laws.{look_back}
 use Rattle.scons_host.specs.Scripts.{first}
@@ -26,8 +26,9 @@ returns-clause-ok g c = λ f s.
     let there = c.first_path.ensures.looks in
     let on = c.first.ensures.looks in
     let scripts = c.args.words.now.scripts in
-    first_so f (so_far c.first_path.new.state) (with_further scripts (so_far c.args.state.now)) c.in_ok-path.path (first_of f scripts) c.first.result (so_far c.first.new.state) c.in_ok-path.ensures.state
-    (c.in_ok-path.ensures.ok f (front m c.args.world.now c.first_path.new.world c.first.new.world f on s))
+    first_so f (so_far c.first_path.new.state) (with_further scripts (so_far c.args.state.now)) c.in_ok-path.path (first_of f scripts) c.first.result (so_far c.first.new.state)
+    (c.in_ok-path.ensures.state ∙ ap (λ (l : List (List ℕ)). with_further l (so_far c.args.state.now)) c.as_slice.ensures)
+    (c.in_ok-path.ensures.ok f (front m c.args.world.now c.first_path.new.world c.first.new.world f on s) ∙ ap (first_of f) c.as_slice.ensures)
     (c.first.ensures.ok f (rest m c.args.world.now c.first_path.new.world c.first.new.world f there on s))
 
 pub returns-clause-fault : goal.returns-clause-fault
@@ -36,8 +37,9 @@ returns-clause-fault g c = λ f s.
     let there = c.first_path.ensures.looks in
     let on = c.first.ensures.looks in
     let scripts = c.args.words.now.scripts in
-    first_not f (so_far c.first_path.new.state) (with_further scripts (so_far c.args.state.now)) c.in_ok-path.path (first_of f scripts) c.first.result c.in_ok-path.ensures.state
-    (c.in_ok-path.ensures.ok f (front m c.args.world.now c.first_path.new.world c.first.new.world f on s))
+    first_not f (so_far c.first_path.new.state) (with_further scripts (so_far c.args.state.now)) c.in_ok-path.path (first_of f scripts) c.first.result
+    (c.in_ok-path.ensures.state ∙ ap (λ (l : List (List ℕ)). with_further l (so_far c.args.state.now)) c.as_slice.ensures)
+    (c.in_ok-path.ensures.ok f (front m c.args.world.now c.first_path.new.world c.first.new.world f on s) ∙ ap (first_of f) c.as_slice.ensures)
     (c.first.ensures.fault f (rest m c.args.world.now c.first_path.new.world c.first.new.world f there on s))
 
 pub returns-in_err-path-clause-fault : goal.returns-in_err-path-clause-fault
