@@ -3,5 +3,11 @@ mod Beginning
 mod Carrying
 mod Coming
 mod Finding
+mod Growing
+mod Moving
 mod Overs
 mod Putting
+mod Questions
+mod Sources
+mod Sufficing
+mod Taking

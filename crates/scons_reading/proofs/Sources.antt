@@ -1,13 +1,7 @@
--- A reading that asks for sources alone is a reading over the sources.
-use Rattle.std.proofs.Common.{◌≡◌, ◌≢◌, ◌∙◌, ◌++◌, ◌∷◌, [], ◌||◌, ◌&&◌, not, cond, refl, sym, ap, subst, ℕ, Bool, true, false, List, Option, Some, None, Result, Ok, Err, Contains, map}
-use Rattle.std.specs.Prelude.{IsSome, filter, slice_get}
-use Rattle.std.specs.List.{find, filter_map, flat_map}
-use Rattle.std.specs.Option.{is_some}
-use Rattle.py_heap.specs.Heap.{Objects}
-use Rattle.py_host.specs.Calls.{Question, Answer, answers}
-use Rattle.py_meaning.specs.States.{Out, Fault}
-use Rattle.py_meaning.specs.Plans.{Plan}
-use Rattle.py_meaning.specs.Evaluates.{Follows, done, then, called, named, printed, asked}
+-- What is declared makes the same graph over the sources as over all files: a library that a rule makes is known by that rule.
+use Rattle.std.proofs.Common.{◌≡◌, ◌∙◌, ◌||◌, ◌&&◌, not, cond, refl, sym, ap, subst, ℕ, Bool, true, false, List, Option, Some, None, Result, Ok}
+use Rattle.std.specs.Prelude.{slice_get, is_some, codes}
+use Rattle.std.specs.List.{find, filter_map}
 use Rattle.env_subst.specs.declared.library.LibItem.{LibItem}
 use Rattle.env_subst.specs.declared.library.LibItem.TheVariants.{Name, Node}
 use Rattle.env_subst.specs.declared.locals.Locals.{Locals}
@@ -26,35 +20,16 @@ use Rattle.scons_rules.specs.Settled.{is_copied}
 use Rattle.scons_rules.specs.Shell.{all_in_line}
 use Rattle.scons_rules.specs.Steps.{and_then, each}
 use Rattle.scons_host.specs.Files.{Files}
-use Rattle.scons_host.specs.Plain.{Plain, plain, Answers}
-use Rattle.scons_host.specs.Turns.{Turn, Rules, answers_with, ends_with}
 use Rattle.scons_reading.specs.Firsts.{is_file}
-use Rattle.scons_reading.specs.Graphs.{standing_in, found, put_in, known_at, Adds, unknown, known, Puts, none, more, Graphs, refused, made}
-use Rattle.scons_reading.specs.Sources.{has_rule, sources, AreSources, EachAsked}
-
--- A run that is all answered is one over other files, where each answer is.
-module _ {F S E : Type 0} (r : Rules F S E) (f g : F) (P : Question → S → Objects → Type 0)
-    (same : (q : Question) (s t : S) (h o : Objects) (x : Answer q) → P q s h → r.turn f q s h ≡ answers_with x t o → r.turn g q s h ≡ answers_with x t o) where
-  answers_moved : {X : Type 0} (t1 t2 : Turn S E X) (h k : Plain S E) (o p : Objects) (x : X) → ((y : X) (s : S) (q : Objects) → t1 ≡ answers_with y s q → t2 ≡ answers_with y s q)
-      → Answers t1 h o (answers x) k p → Answers t2 h o (answers x) k p
-  answers_moved (answers_with y s q) t2 h k o p x on w = subst (λ t. Answers t h o (answers x) k p) (sym (on y s q refl)) w
-  answers_moved (ends_with e) t2 h k o p x on w = absurd w
-
-  pub moved : {c : ℕ} {p : Plan} {h k : Plain S E} {out : Out} → (d : Follows (plain r f) c p h (Ok out) k) → EachAsked P d → Follows (plain r g) c p h (Ok out) k
-  moved done e = done
-  moved (then o h1 a b) e = then o h1 (moved a e.0) (moved b e.1)
-  moved (called o h1 a b) e = called o h1 (moved a e.0) (moved b e.1)
-  moved (named v h1 a b) e = named v h1 a (moved b e)
-  moved (printed h1 a b) e = printed h1 a (moved b e)
-  moved {h = h} (asked {q = q} {s = s} x h1 objects a b) e =
-      asked x h1 objects (answers_moved (r.turn f q h.state s.objects) (r.turn g q h.state s.objects) h h1 s.objects objects x (λ y t o. same q h.state t s.objects o y e.0) a.0, a.1) (moved b e.1)
+use Rattle.scons_reading.specs.Graphs.{standing_in, found, put_in, Adds, unknown, known, Puts, none, more, Graphs, made}
+use Rattle.scons_reading.specs.Sources.{has_rule, sources}
 
 -- What is known among the sources is what is known among all files: the library of a rule is known by that rule.
 source_bool : (made copied copy : Bool) (content : Option (List ℕ)) → (copied ≡ false → copy ≡ false)
     → (made || (not copied && is_some (cond (made || copy) None content))) ≡ (made || (not copied && is_some content))
-source_bool true copied copy content no = refl
-source_bool false true copy content no = refl
-source_bool false false copy content no = ap (λ c. is_some (cond (false || c) None content)) (no refl)
+source_bool true copied copy content free = refl
+source_bool false true copy content free = refl
+source_bool false false copy content free = ap (λ c. is_some (cond (false || c) None content)) (free refl)
 
 or_true : (b : Bool) → (b || true) ≡ true
 or_true true = refl
@@ -103,11 +78,11 @@ module _ (f : Files) (d : Declared) where
     each_same dirs items = λ i. each (λ item. library_same dirs item i) items
 
     libraries_same : libraries.libraries (standing_in S) x ≡ libraries.libraries (standing_in f) x
-    libraries_same = λ i. and_then (lib_items_of x) (λ items. and_then (dirs_of x _) (λ dirs. and_then (all_in_line dirs) (λ u. each_same dirs items i)))
+    libraries_same = λ i. and_then (lib_items_of x) (λ items. and_then (dirs_of x (codes "LIBPATH")) (λ dirs. and_then (all_in_line dirs) (λ u. each_same dirs items i)))
 
   program_same : (r : Rule) (l : Locals) (recipe : Recipe) → r.recipe ≡ recipe
       → program_libraries (standing_in S) (record { declared = d; rule = r; locals = l }) ≡ program_libraries (standing_in f) (record { declared = d; rule = r; locals = l })
-  program_same r l Program is = rw is (libraries_same (record { declared = d; rule = r; locals = l }) refl)
+  program_same r l Program is = rw is (libraries_same (record { declared = d; rule = record r { recipe = Program }; locals = l }) refl)
   program_same r l Object is = rw is refl
   program_same r l StaticLibrary is = rw is refl
   program_same r l (Command lines) is = rw is refl
@@ -138,11 +113,11 @@ module _ (f : Files) (d : Declared) where
 
   -- a file that has no rule is a source, and what is no file is none
   pub source_kept : (path : List ℕ) → has_rule f d path ≡ false → S.tree path ≡ f.tree path
-  source_kept path no = ap (λ b. cond b None (f.tree path)) no
+  source_kept path free = ap (λ b. cond b None (f.tree path)) free
 
   absent_by : (b : Bool) (content : Option (List ℕ)) → content ≡ None → cond b None content ≡ None
-  absent_by true content none = refl
-  absent_by false content none = none
+  absent_by true content away = refl
+  absent_by false content away = away
 
   pub source_absent : (path : List ℕ) → f.tree path ≡ None → S.tree path ≡ None
-  source_absent path none = absent_by (has_rule f d path) (f.tree path) none
+  source_absent path away = absent_by (has_rule f d path) (f.tree path) away

@@ -5,3 +5,4 @@ pub mod Firsts
 pub mod Graphs
 pub mod Reads
 pub mod Running
+pub mod Sources
