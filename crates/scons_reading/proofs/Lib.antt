@@ -1,4 +1,3 @@
-mod Alone
 mod Beginning
 mod Carrying
 mod Coming
