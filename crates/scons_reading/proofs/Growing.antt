@@ -318,7 +318,7 @@ found_grows f s place (path ∷ paths) = by (bytes_at f path) (found_grows f s p
 
 next_begins_grows : (f : Files) (s : SoFar) (one : Waiting) (file : Node) → IfOk (next_begins f s one file) (Pair s)
 next_begins_grows f s one file = then_so (Pair s) (Pair s) (told_by of_refusal (found s one file)) (begins_found f) (place_grows (scripts.found_script s.declared one.env file one.variant one.duplicate)) (λ at g.
-      so_on (Pair at.1) (Pair s) (begins_found f at) (found_grows f at.1 at.0 at.0.candidates) (λ m w. joins s at.1 m.1 g w))
+    so_on (Pair at.1) (Pair s) (begins_found f at) (found_grows f at.1 at.0 at.0.candidates) (λ m w. joins s at.1 m.1 g w))
   where
     place_grows : (r : Result (ScriptPlace × _) NameFault)
         → IfOk (told_by of_refusal (and_then (told_by of_name r) (λ at. let one : Result (ScriptPlace × SoFar) Refusal = Ok (at.0, with_declared s at.1) in one))) (Pair s)
