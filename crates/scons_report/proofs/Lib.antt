@@ -11,6 +11,7 @@ mod Finished
 mod Fronting
 mod Leftover
 mod Judging
+mod Ringing
 mod Listing
 mod Showing
 mod Trees

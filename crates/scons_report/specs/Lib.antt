@@ -6,5 +6,6 @@ pub mod Cleans
 pub mod Dry
 pub mod Foreseen
 pub mod Overs
+pub mod Rings
 pub mod Trees
 pub mod Walks

@@ -1,9 +1,10 @@
 //! The rules that a dry run lists.
-ghost use Rattle.std.specs.Prelude.{◌≡◌, ◌≤◌, ◌||◌, ℕ, List, ◌++◌, ◌∷◌, [], true, length, slice_set, IfOk, IfSome, IfNone, OnOk};
+ghost use Rattle.std.specs.Prelude.{◌≡◌, ◌≤◌, ◌<◌, ◌||◌, ℕ, List, ◌++◌, ◌∷◌, [], true, length, slice_set, IfOk, IfSome, IfNone, OnOk};
 ghost use Rattle.world_api.specs.Looks.{Looks};
 ghost use Rattle.scons_report.specs.Causes.{HasListCause, IsInside};
 ghost use Rattle.rule_graph.specs.Rules.{rule_of};
 ghost use Rattle.scons_report.specs.Dry.{AreGone, DryLists};
+ghost use Rattle.scons_report.specs.Rings.{AreFirstTargets, IsPlaceOfLeast, IsRingTold, IsTurned, TellsRing};
 ghost use Rattle.scons_report.specs.Overs.{among_paths, is_fed_by, makes_listed, AreTargetsOf, Judges, Lists, ListsAll, ListsNext, StaysReady};
 ghost use Rattle.sign_store.specs.Stores.{map_of_view};
 ghost use Rattle.task_plan.specs.Cycles.{HasNoCycle};
@@ -275,26 +276,47 @@ fn cycle_end(alloc: Global, graph: &Graph, rules: &[RuleId]) -> ListEnd
 }
 
 /// The fault of rules that wait for themselves: their first targets, from the least on.
-pub fn cycle_fault(alloc: Global, graph: &Graph, rules: &[RuleId]) -> Result<BuildFault, Memory> {
+pub fn cycle_fault(alloc: Global, graph: &Graph, rules: &[RuleId]) -> Result<BuildFault, Memory>
+    ensures { IfOk result (TellsRing graph.now rules.now) }
+{
     Ok(BuildFault::Cycle(cycle_paths(alloc, graph, rules)?))
 }
 
-fn cycle_paths(alloc: Global, graph: &Graph, rules: &[RuleId]) -> Result<Paths, Memory> {
+#[tactic(auto, using(crate::proofs::Ringing::told))]
+fn cycle_paths(alloc: Global, graph: &Graph, rules: &[RuleId]) -> Result<Paths, Memory>
+    ensures { IfOk result (IsRingTold graph.now rules.now) }
+{
+    let paths = first_targets(alloc, graph, rules)?;
+    Ok(Paths::new(from_least(paths)?))
+}
+
+/// The first targets of some rules.
+fn first_targets(alloc: Global, graph: &Graph, rules: &[RuleId]) -> Result<Vec<PathText>, Memory>
+    ensures { IfOk result (λ paths. AreFirstTargets graph.now rules.now paths.items) }
+{
     let mut paths: Vec<PathText> = Vec::new(alloc);
     for rule in rules {
         paths.push(first_target(graph, *rule)?)?;
     }
+    Ok(paths)
+}
+
+/// A ring of paths, turned so that it begins with the least.
+#[tactic(auto, using(crate::proofs::Ringing::turns))]
+fn from_least(mut paths: Vec<PathText>) -> Result<Vec<PathText>, Memory>
+    ensures { IfOk result (λ turned. IsTurned paths.items turned.items) }
+{
     let least = place_of_least(paths.as_slice());
-    let mut ordered = paths.split_off(least)?;
-    for path in paths {
-        ordered.push(path)?;
-    }
-    Ok(Paths::new(ordered))
+    let mut turned = paths.split_off(least)?;
+    turned.append(&mut paths)?;
+    Ok(turned)
 }
 
 /// The place of the least of some paths.
 fn place_of_least(paths: &[PathText]) -> usize
-    ensures { result ≤ length paths.now }
+    ensures within { result ≤ length paths.now }
+    ensures some { 0 < length paths.now → result < length paths.now }
+    ensures least { IsPlaceOfLeast paths.now result }
 {
     let mut least = 0;
     for (place, path) in paths.iter().enumerate() {

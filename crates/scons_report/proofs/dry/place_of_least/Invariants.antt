@@ -1,5 +1,5 @@
-use Rattle.std.proofs.Common.{◌≤◌, length}
+use Rattle.scons_report.proofs.Ringing.{IsLeastSoFar}
 use Rattle.scons_report.proofs.dry.place_of_least.Given as goal
 
 abbrev pub invariant-loop-place : goal.invariant-loop-place
-invariant-loop-place l = l.least ≤ length l.paths
+invariant-loop-place l = IsLeastSoFar l.paths l.place l.least
