@@ -40,6 +40,7 @@ use Rattle.scons_top.specs.declared.stop.OwnFault.TheVariants as own
 use Rattle.scons_top.specs.declared.stop.Stop.{Stop}
 use Rattle.scons_top.specs.declared.stop.Stop.TheVariants as stop
 use Rattle.scons_top.proofs.Building.{around_asked}
+use Rattle.scons_top.proofs.Grown.{grown_here}
 
 -- ---- graphs that grow
 
@@ -113,6 +114,9 @@ grows_by_paths g h grown reading = record {
         (subst (λ (nodes : List (List ℕ)). map (by_paths nodes) g.rules ≡ map (by_paths g.nodes) g.rules) (sym grown.nodes) (rules_stay g.nodes grown.more g.rules reading.named.each_rule))
         (subst (λ (nodes : List (List ℕ)). map (alias_by nodes) g.aliases ≡ map (alias_by g.nodes) g.aliases) (sym grown.nodes) (aliases_stay g.nodes grown.more g.aliases reading.named.each_alias));
 }
+
+pub grows_here : (g : RuleGraph) → GrowsByPaths g g
+grows_here g = record { grown = grown_here g; by_paths = refl }
 
 -- ---- stops that tell no fault of the scripts
 
