@@ -22,7 +22,7 @@ use Rattle.build_run.specs.Unrecorded.{HasCounted}
 use Rattle.build_run.specs.declared.end.BuildEnd.{BuildEnd}
 use Rattle.scons_words.specs.declared.words.Words.{Words}
 use Rattle.scons_top.specs.Builds.{BeginsStore, wanted_by, HasBuilt, BuildsOrStops, RunBuilds}
-use Rattle.scons_top.specs.Declared.{BuildsNodes, BuildsOf, RunBuildsOf}
+use Rattle.scons_top.specs.Scripted.{BuildsNodes, BuildsOf, RunBuildsOf}
 use Rattle.scons_top.specs.RunLines.{options_of}
 use Rattle.scons_top.specs.Stopping.{RunsSafely}
 use Rattle.scons_top.specs.Stops.{top_of}

@@ -31,7 +31,7 @@ use Rattle.scons_top.specs.declared.report.Report.{Report}
 use Rattle.scons_top.specs.declared.step.Step.{Step}
 use Rattle.scons_top.specs.declared.step.Step.TheVariants as step
 use Rattle.scons_top.specs.declared.stop.Stop.{Stop}
-use Rattle.scons_top.specs.Declared.{CleansOf}
+use Rattle.scons_top.specs.Scripted.{CleansOf}
 use Rattle.scons_top.specs.Cleaned.{is_file_kind, targets_of, IsCleared, Cleared, AreNone, AreRemoved, CleansNodes, CleansAsked, HasCleaned, Cleans, CleansOrStops, RunCleans}
 use Rattle.scons_top.specs.Steps.{IsReadingStep, IsListingStep, IsBuildingStep}
 use Rattle.scons_top.specs.Watching.{Watches}

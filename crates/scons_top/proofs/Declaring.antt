@@ -29,7 +29,7 @@ use Rattle.scons_host.specs.Prints.{Prints as HostPrints}
 use Rattle.scons_reading.specs.Coming.{HasOutcome, Over}
 use Rattle.scons_reading.specs.Ends.{IsToldEnd}
 use Rattle.scons_reading.specs.Reads.{Reads}
-use Rattle.scons_top.specs.Declared.{GrowsByPaths, IsRead, ReadsScripts, StopSo, StopTells}
+use Rattle.scons_top.specs.Scripted.{GrowsByPaths, IsRead, ReadsScripts, StopSo, StopTells}
 use Rattle.scons_top.specs.Naming.{HasGrown}
 use Rattle.scons_top.specs.RunLines.{opening_text, progress}
 use Rattle.scons_top.specs.Sinks.{IsCutBy, Printed}
@@ -169,9 +169,9 @@ module _ (Is : HostEnd → Type 0) where
 
 -- ---- a reading
 
-opening_is : (before first printed last one two now : List ℕ) → one ≡ before ++ first → two ≡ one ++ printed → now ≡ two ++ last → now ≡ before ++ (first ++ (printed ++ last))
+opening_is : (before first printed last one two now : List ℕ) → one ≡ before ++ first → two ≡ one ++ printed → now ≡ two ++ last → now ≡ before ++ ((first ++ printed) ++ last)
 opening_is before first printed last one two now at then behind =
-    behind ∙ ap (λ x. x ++ last) (then ∙ ap (λ x. x ++ printed) at) ∙ append_assoc (before ++ first) printed last ∙ append_assoc before first (printed ++ last)
+    behind ∙ ap (λ x. x ++ last) (then ∙ ap (λ x. x ++ printed) at ∙ append_assoc before first printed) ∙ append_assoc before (first ++ printed) last
 
 module _ {W O : Type 0} (m : Meaning W) (p : SinkMeaning O) (said : Words) where
   -- where a `?` ends it, for a stop that tells no fault of the scripts

@@ -18,7 +18,7 @@ use Rattle.scons_host.specs.declared.end.HostEnd.{HostEnd}
 use Rattle.scons_top.specs.Asked.{asked_by, words_asked}
 use Rattle.scons_top.specs.Builds.{EndsBefore, RunBuilds}
 use Rattle.scons_top.specs.Cleaned.{CleansAsked, CleansNodes}
-use Rattle.scons_top.specs.Declared.{BuildsNodes, BuildsOf, CleansOf, Declare, DoesAt, FollowsAt, GrowsByPaths, HasRead, IsBehind, ReadsScripts, RunBuildsOf, RunFollows, Serves, StopSo, StopTells, TellsEnd, TellsFirst, TellsWord}
+use Rattle.scons_top.specs.Scripted.{BuildsNodes, BuildsOf, CleansOf, Declare, DoesAt, FollowsAt, GrowsByPaths, HasRead, IsBehind, ReadsScripts, RunBuildsOf, RunFollows, Serves, StopSo, StopTells, TellsEnd, TellsFirst, TellsWord}
 use Rattle.scons_top.specs.Faults.{top_of_own}
 use Rattle.scons_top.specs.Finding.{AskedOf, FindsWords}
 use Rattle.scons_top.specs.Naming.{IsFirstUnknown, NamesSome}

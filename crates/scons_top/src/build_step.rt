@@ -8,7 +8,7 @@ ghost use Rattle.world_api.specs.Statuses.{HasStatus};
 ghost use Rattle.rule_graph.specs.Graphs.{RuleGraph};
 ghost use Rattle.sign_store.specs.Stores.{IsKept, is_live, HasMapOf};
 ghost use Rattle.scons_top.specs.Builds.{BeginsStore, RunBuilds};
-ghost use Rattle.scons_top.specs.Declared.{RunBuildsOf};
+ghost use Rattle.scons_top.specs.Scripted.{RunBuildsOf};
 ghost use Rattle.scons_top.specs.Steps.{IsBuildingStep, LeavesAt, RunEndsAt, StopsAt};
 ghost use Rattle.scons_top.specs.Printed.{EndsPrinting, LosesOut, ServesPrinting};
 ghost use Rattle.scons_top.specs.Sinks.{PrintsUpTo};

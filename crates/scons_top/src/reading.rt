@@ -4,7 +4,7 @@ ghost use Rattle.scons_host.specs.Causes.{ReadingCauses};
 ghost use Rattle.scons_host.specs.Prints.{Prints};
 ghost use Rattle.scons_reading.specs.Coming.{HasOutcome, Over};
 ghost use Rattle.scons_reading.specs.Reads.{Reads};
-ghost use Rattle.scons_top.specs.Declared.{ReadsScripts};
+ghost use Rattle.scons_top.specs.Scripted.{ReadsScripts};
 ghost use Rattle.scons_top.specs.Printed.{ReadPrints};
 ghost use Rattle.scons_top.specs.Steps.{IsReadingStep, StopsAt};
 ghost use Rattle.scons_top.specs.Stops.{IsTopStop, OutSteps, WorldStep};

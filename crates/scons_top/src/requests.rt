@@ -6,7 +6,7 @@ ghost use Rattle.node_tree.specs.Nodes.{AreApart};
 ghost use Rattle.scons_top.specs.Asked.{asked_by, asked_of, word_of, words_asked};
 ghost use Rattle.scons_top.specs.Asked.{IsReadAs, IsUnknownAs, IsUnknownOf, IsWord, IsWordIn, NamesNone, StopsFor};
 ghost use Rattle.scons_top.specs.Below.{has_below, KnowsTargets};
-ghost use Rattle.scons_top.specs.Declared.{GrowsByPaths};
+ghost use Rattle.scons_top.specs.Scripted.{GrowsByPaths};
 ghost use Rattle.scons_top.specs.Finding.{AreOf, CountsOrAbove, Finds, FindsPath, FindsWord, FindsWords, FoundOrUnknown, IsLeftAlone, TellsRule};
 ghost use Rattle.scons_top.specs.Foreign.{StepByBytes, StepOnNone, StopsByBytes};
 ghost use Rattle.scons_top.specs.Naming.{HasGrown};

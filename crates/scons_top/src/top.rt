@@ -7,7 +7,7 @@ ghost use Rattle.scons_top.specs.Builds.{Builds, RemembersAt, RunBuilds};
 ghost use Rattle.scons_top.specs.Causes.{RunCauses};
 ghost use Rattle.scons_top.specs.Cleaned.{Cleans, RunCleans};
 ghost use Rattle.scons_top.specs.Complete.{RunCompletes};
-ghost use Rattle.scons_top.specs.Declared.{DoesAt, ReportFollows, RunFollows, WordsFollow};
+ghost use Rattle.scons_top.specs.Scripted.{DoesAt, ReportFollows, RunFollows, WordsFollow};
 ghost use Rattle.scons_top.specs.Finding.{RunTellsWords, TellsWordsOf};
 ghost use Rattle.scons_top.specs.Foreign.{OpensByBytes, RunByBytes, TellsBytes};
 ghost use Rattle.report_texts.specs.Texts.{help_text};

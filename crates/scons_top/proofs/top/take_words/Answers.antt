@@ -16,7 +16,7 @@ use Rattle.scons_top.specs.Finding.{RunTellsWords}
 use Rattle.scons_top.proofs.Wording.{run_untold}
 use Rattle.scons_top.proofs.Building.{no_load, stops, words_said}
 use Rattle.scons_top.proofs.Causing.{exit_report, words_stop}
-use Rattle.scons_top.specs.Declared.{RunFollows}
+use Rattle.scons_top.specs.Scripted.{RunFollows}
 use Rattle.scons_top.proofs.top.take_words.Goals as goal
 
 pub returns-in_err-words-clause-reports : goal.returns-in_err-words-clause-reports
