@@ -130,7 +130,7 @@ of_looked m said g nodes a b new r only looks told idle counts safe builds = λ 
 -- behind the beginning of its store
 
 -- a fault after which nothing new starts
-last_told : (memory : Bool) (faults : List BuildFault) → memory ≡ false → HasLast memory faults → HasAny IsLast faults
+pub last_told : (memory : Bool) (faults : List BuildFault) → memory ≡ false → HasLast memory faults → HasAny IsLast faults
 last_told memory faults none (inl wanting) = absurd (false≢true (sym none ∙ wanting))
 last_told memory faults none (inr has) = has
 
