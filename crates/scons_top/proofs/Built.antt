@@ -22,6 +22,7 @@ use Rattle.build_run.specs.Unrecorded.{HasCounted}
 use Rattle.build_run.specs.declared.end.BuildEnd.{BuildEnd}
 use Rattle.scons_words.specs.declared.words.Words.{Words}
 use Rattle.scons_top.specs.Builds.{BeginsStore, wanted_by, HasBuilt, BuildsOrStops, RunBuilds}
+use Rattle.scons_top.specs.Scripted.{BuildsNodes, BuildsOf, RunBuildsOf}
 use Rattle.scons_top.specs.RunLines.{options_of}
 use Rattle.scons_top.specs.Stopping.{RunsSafely}
 use Rattle.scons_top.specs.Stops.{top_of}
@@ -34,7 +35,7 @@ use Rattle.scons_top.proofs.Remembered.{remembers_begun, remembers_behind, remem
 
 -- behind a build
 
-pub built_looked : {W : Type 0} (m : Meaning W) (said : Words) (old a b : W) (report : Report) → HasOnlyNow m → Watches m a b → m.tells b
+unfoldable pub built_looked : {W : Type 0} (m : Meaning W) (said : Words) (old a b : W) (report : Report) → HasOnlyNow m → Watches m a b → m.tells b
     → (m.tells a → (m.around a).running ≡ []) → HasBuilt m said old a report → HasBuilt m said old b report
 built_looked m said old a b report only watches told idle h =
     let w = wanted_by said h.graph h.requested in
@@ -105,14 +106,35 @@ builds_looked m said a b new r only looks told idle counts safe builds = λ ask 
     let here = told.told tells in
     steps_looked m said a b new r only looks here (idle (looks.told.told here)) told counts safe (builds ask tells sure)
 
+-- of these very nodes
+
+nodes_back : {W : Type 0} (m : Meaning W) (said : Words) (g : RuleGraph) (nodes : List NodeId) (a b new : W) (report : Report) → HasOnlyNow m → Looks m a b → m.tells b
+    → (m.around a).running ≡ [] → Told m b new → m.counts b ≡ m.counts a → RunsSafely m a b → BuildsNodes m said g nodes b new report → BuildsNodes m said g nodes a new report
+unfolding built_back
+nodes_back m said g nodes a b new report only looks here idle told counts safe h =
+    record { built = built_back m said a b new report only looks here idle told counts safe h.built; graph = h.graph; requested = h.requested }
+
+of_steps : {W : Type 0} (m : Meaning W) (said : Words) (g : RuleGraph) (nodes : List NodeId) (a b new : W) (r : Result Report Stop) → HasOnlyNow m → Looks m a b → m.tells b
+    → (m.around a).running ≡ [] → Told m b new → m.counts b ≡ m.counts a → RunsSafely m a b → BuildsOf m said g nodes b new r → BuildsOf m said g nodes a new r
+of_steps m said g nodes a b new (Ok report) only looks here idle told counts safe (inl built) = inl (nodes_back m said g nodes a b new report only looks here idle told counts safe built)
+of_steps m said g nodes a b new (Ok report) only looks here idle told counts safe (inr early) = inr (early.0, early.1, ends_looked m a b new looks early.2)
+of_steps m said g nodes a b new (Err stop) only looks here idle told counts safe ends = ends_looked m a b new looks ends
+
+pub of_looked : {W : Type 0} (m : Meaning W) (said : Words) (g : RuleGraph) (nodes : List NodeId) (a b new : W) (r : Result Report Stop) → HasOnlyNow m → Looks m a b
+    → Told m b new → (m.tells a → (m.around a).running ≡ []) → m.counts b ≡ m.counts a → RunsSafely m a b
+    → RunBuildsOf m said g nodes b new r → RunBuildsOf m said g nodes a new r
+of_looked m said g nodes a b new r only looks told idle counts safe builds = λ ask tells sure.
+    let here = told.told tells in
+    of_steps m said g nodes a b new r only looks here (idle (looks.told.told here)) told counts safe (builds ask tells sure)
+
 -- behind the beginning of its store
 
 -- a fault after which nothing new starts
-last_told : (memory : Bool) (faults : List BuildFault) → memory ≡ false → HasLast memory faults → HasAny IsLast faults
+pub last_told : (memory : Bool) (faults : List BuildFault) → memory ≡ false → HasLast memory faults → HasAny IsLast faults
 last_told memory faults none (inl wanting) = absurd (false≢true (sym none ∙ wanting))
 last_told memory faults none (inr has) = has
 
-pub build_done : {W : Type 0} (m : Meaning W) (said : Words) (g : RuleGraph) (requested : List NodeId) (store : Map)
+unfoldable pub build_done : {W : Type 0} (m : Meaning W) (said : Words) (g : RuleGraph) (requested : List NodeId) (store : Map)
     (old begun new : W) (behind : Map) (answer : BuildEnd) (report : Report)
     → BeginsStore m old begun → RunsSafely m old begun → Told m begun new → m.counts begun ≡ m.counts old → (m.tells begun → store ≡ image_in (m.seen old))
     → are_below (length g.nodes) requested ≡ true → (report.status ≡ 0 → (answer.faults ≡ []) × (answer.memory ≡ false))

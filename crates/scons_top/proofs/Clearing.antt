@@ -31,6 +31,7 @@ use Rattle.scons_top.specs.declared.report.Report.{Report}
 use Rattle.scons_top.specs.declared.step.Step.{Step}
 use Rattle.scons_top.specs.declared.step.Step.TheVariants as step
 use Rattle.scons_top.specs.declared.stop.Stop.{Stop}
+use Rattle.scons_top.specs.Scripted.{CleansOf}
 use Rattle.scons_top.specs.Cleaned.{is_file_kind, targets_of, IsCleared, Cleared, AreNone, AreRemoved, CleansNodes, CleansAsked, HasCleaned, Cleans, CleansOrStops, RunCleans}
 use Rattle.scons_top.specs.Steps.{IsReadingStep, IsListingStep, IsBuildingStep}
 use Rattle.scons_top.specs.Watching.{Watches}
@@ -274,6 +275,23 @@ module _ {W : Type 0} (m : Meaning W) where
 
   pub cleans_after : (said : Words) (at : Step) (a b c : W) (r : Result Report Stop) → Watches m a b → (m.tells a → (m.around a).running ≡ []) → (m.tells c → m.tells b) → RunCleans m said at b c r → RunCleans m said at a c r
   cleans_after said at a b c r watches idle told h is = stops_after said a b c r watches idle told (h is)
+
+  -- of these very nodes
+  nodes_after : (said : Words) (g : RuleGraph) (nodes : List NodeId) (a b c : W) (well : Type 0) → Watches m a b → (m.tells a → (m.around a).running ≡ []) → (m.tells c → m.tells b)
+      → CleansNodes m said g nodes b c well → CleansNodes m said g nodes a c well
+  nodes_after said g nodes a b c well watches idle told h = record {
+    list = h.list;
+    is = h.is;
+    cleared = cleared_after (targets_of (rules_numbered g h.list)) a b c watches idle told h.cleared;
+    gone = h.gone;
+  }
+
+  pub of_after : (said : Words) (g : RuleGraph) (nodes : List NodeId) (a b c : W) (r : Result Report Stop) → Watches m a b → (m.tells a → (m.around a).running ≡ []) → (m.tells c → m.tells b)
+      → CleansOf m said g nodes b c r → CleansOf m said g nodes a c r
+  of_after said g nodes a b c (Ok report) watches idle told (inl h) = inl (nodes_after said g nodes a b c (report.status ≡ 0) watches idle told h)
+  of_after said g nodes a b c (Ok report) watches idle told (inr looked) = inr (looked.0, looks_joined m a b c watches.looks looked.1)
+  of_after said g nodes a b c (Err s) watches idle told (inl h) = inl (nodes_after said g nodes a b c ⊥ watches idle told h)
+  of_after said g nodes a b c (Err s) watches idle told (inr looks) = inr (looks_joined m a b c watches.looks looks)
 
   pub asked_or_stops : (said : Words) (g : RuleGraph) (requested : List NodeId) (old new : W) (r : Result Report Stop) → CleansAsked m said g requested old new r → CleansOrStops m said old new r
   asked_or_stops said g requested old new (Ok report) h = record { graph = g; requested = requested; cleans = h }

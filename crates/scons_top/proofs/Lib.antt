@@ -31,3 +31,5 @@ mod Telling
 mod Digests
 mod Listing
 mod Treeing
+mod Declaring
+mod Following

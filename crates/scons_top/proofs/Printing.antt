@@ -118,7 +118,7 @@ module _ {S : Type 0} (p : SinkMeaning S) where
   such_some where_so P cut a b text h is short =
       record { told = h.told; such = λ so t. record { text = text; is = is; printed = inr (short, h.printed t) } }
 
-  of_weaker : (P Q : List ℕ → Type 0) (cut short : Type 0) (a b : S) → ((text : List ℕ) → P text → Q text) → (cut → short) → IsPrintedOf p P cut a b → IsPrintedOf p Q short a b
+  pub of_weaker : (P Q : List ℕ → Type 0) (cut short : Type 0) (a b : S) → ((text : List ℕ) → P text → Q text) → (cut → short) → IsPrintedOf p P cut a b → IsPrintedOf p Q short a b
   of_weaker P Q cut short a b by so h = record { text = h.text; is = by h.text h.is; printed = on h.printed }
     where
       on : ((p.text b ≡ p.text a ++ h.text) ⊎ (cut × IsPrefixed (p.text a) (p.text b) h.text)) → (p.text b ≡ p.text a ++ h.text) ⊎ (short × IsPrefixed (p.text a) (p.text b) h.text)

@@ -315,7 +315,7 @@ build_looked m p said g requests a b new report text around records h =
       whole = two.whole;
     }
 
-building_looked : {W O : Type 0} (m : Meaning W) (p : SinkMeaning O) (said : Words) (g : RuleGraph) (requests : List Request) (a b new : W) (r : Result Report Stop) (text : List ℕ)
+pub building_looked : {W O : Type 0} (m : Meaning W) (p : SinkMeaning O) (said : Words) (g : RuleGraph) (requests : List Request) (a b new : W) (r : Result Report Stop) (text : List ℕ)
     → m.around b ≡ m.around a → image_in (m.seen b) ≡ image_in (m.seen a) → IsBuildingText m p said g requests b new r text → IsBuildingText m p said g requests a new r text
 building_looked m p said g requests a b new (Err s) text around records h = h
 building_looked m p said g requests a b new (Ok report) text around records (inr early) = inr early
@@ -341,7 +341,7 @@ module _ {W : Type 0} (m : Meaning W) (said : Words) (g : RuleGraph) (requests :
   or_none_looked text (inl none) = inl none
   or_none_looked text (inr h) = inr (list_looked text h)
 
-  listing_looked : (r : Result Report Stop) (text : List ℕ) → IsListingText m said g requests b new r text → IsListingText m said g requests a new r text
+  pub listing_looked : (r : Result Report Stop) (text : List ℕ) → IsListingText m said g requests b new r text → IsListingText m said g requests a new r text
   listing_looked (Err s) text h = (h.0, or_none_looked text h.1)
   listing_looked (Ok report) text (inl h) = inl (h.0, list_looked text h.1)
   listing_looked (Ok report) text (inr (inl h)) = inr (inl h)
@@ -476,7 +476,7 @@ module _ {W O : Type 0} (m : Meaning W) (p : SinkMeaning O) (said : Words) where
     whole = h.whole;
   }
 
-  stopped_ended : (cut short : Type 0) (g : RuleGraph) (requests : List Request) (around : Around) (text : List ℕ) → (cut → short) → IsCleanStopped cut said g requests around text
+  pub stopped_ended : (cut short : Type 0) (g : RuleGraph) (requests : List Request) (around : Around) (text : List ℕ) → (cut → short) → IsCleanStopped cut said g requests around text
       → IsCleanStopped short said g requests around text
   stopped_ended cut short g requests around text so (inl h) = inl (so h.0, h.1)
   stopped_ended cut short g requests around text so (inr (inl h)) = inr (inl h)

@@ -6,6 +6,7 @@ pub mod Asked
 pub mod Remembered
 pub mod Builds
 pub mod Counted
+pub mod Scripted
 pub mod Causes
 pub mod Cleaned
 pub mod Complete

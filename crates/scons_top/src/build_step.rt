@@ -8,6 +8,7 @@ ghost use Rattle.world_api.specs.Statuses.{HasStatus};
 ghost use Rattle.rule_graph.specs.Graphs.{RuleGraph};
 ghost use Rattle.sign_store.specs.Stores.{IsKept, is_live, HasMapOf};
 ghost use Rattle.scons_top.specs.Builds.{BeginsStore, RunBuilds};
+ghost use Rattle.scons_top.specs.Scripted.{RunBuildsOf};
 ghost use Rattle.scons_top.specs.Steps.{IsBuildingStep, LeavesAt, RunEndsAt, StopsAt};
 ghost use Rattle.scons_top.specs.Printed.{EndsPrinting, LosesOut, ServesPrinting};
 ghost use Rattle.scons_top.specs.Sinks.{PrintsUpTo};
@@ -60,6 +61,7 @@ pub(crate) fn build_requests<W: World, O: Sink, E: Sink>(
     ensures faults { IfOk result (λ report. EarlyOnlyIf ⊥ report.faults) }
     ensures status { IfOk result (λ report. HasStatus report.status report.faults) }
     ensures builds { AskForNodes graph.old requests.now → RunBuilds W.meaning words.now world.old world.new result }
+    ensures of { AskForNodes graph.old requests.now → RunBuildsOf W.meaning words.now graph.old (nodes_asked requests.now) world.old world.new result }
     ensures safe { AskForNodes graph.old requests.now → RunsSafely W.meaning world.old world.new }
 {
     *at = Step::Store;

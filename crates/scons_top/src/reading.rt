@@ -2,6 +2,9 @@
 ghost use Rattle.std.specs.Prelude.{IfErr};
 ghost use Rattle.scons_host.specs.Causes.{ReadingCauses};
 ghost use Rattle.scons_host.specs.Prints.{Prints};
+ghost use Rattle.scons_reading.specs.Coming.{HasOutcome, Over};
+ghost use Rattle.scons_reading.specs.Reads.{Reads};
+ghost use Rattle.scons_top.specs.Scripted.{ReadsScripts};
 ghost use Rattle.scons_top.specs.Printed.{ReadPrints};
 ghost use Rattle.scons_top.specs.Steps.{IsReadingStep, StopsAt};
 ghost use Rattle.scons_top.specs.Stops.{IsTopStop, OutSteps, WorldStep};
@@ -32,6 +35,7 @@ pub(crate) fn read<W: World, O: Sink>(
     ensures watches { Watches W.meaning world.old world.new }
     ensures steps { OutSteps W.meaning O.meaning world.old out.old world.new out.new result }
     ensures prints { ReadPrints O.meaning words.now at.new out.old out.new result }
+    ensures reads { ReadsScripts W.meaning O.meaning words.now world.old out.old world.new out.new result }
 {
     *at = Step::Top;
     ask_for_top(alloc, world)?;
@@ -53,6 +57,8 @@ fn graph_of<W: World, O: Sink>(
     ensures watches { Watches W.meaning world.old world.new }
     ensures causes { ReadingCauses W.meaning O.meaning world.old out.old world.new out.new result }
     ensures prints { Prints O.meaning out.old out.new }
+    ensures reads { Over W.meaning O.meaning world.old out.old world.new out.new (λ f text.
+        HasOutcome (Reads f words.now) text result) }
 {
     read_scripts(alloc, world, out, words)
 }

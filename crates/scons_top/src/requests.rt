@@ -6,6 +6,7 @@ ghost use Rattle.node_tree.specs.Nodes.{AreApart};
 ghost use Rattle.scons_top.specs.Asked.{asked_by, asked_of, word_of, words_asked};
 ghost use Rattle.scons_top.specs.Asked.{IsReadAs, IsUnknownAs, IsUnknownOf, IsWord, IsWordIn, NamesNone, StopsFor};
 ghost use Rattle.scons_top.specs.Below.{has_below, KnowsTargets};
+ghost use Rattle.scons_top.specs.Scripted.{GrowsByPaths};
 ghost use Rattle.scons_top.specs.Finding.{AreOf, CountsOrAbove, Finds, FindsPath, FindsWord, FindsWords, FoundOrUnknown, IsLeftAlone, TellsRule};
 ghost use Rattle.scons_top.specs.Foreign.{StepByBytes, StepOnNone, StopsByBytes};
 ghost use Rattle.scons_top.specs.Naming.{HasGrown};
@@ -50,6 +51,7 @@ pub(crate) fn requests_of<W: World>(
     ensures stops { IfErr result (StopsFor (IsUnknownOf graph.new (asked_by graph.old words.now))) }
     ensures bytes { StepByBytes W.meaning world.old world.new result }
     ensures names { FindsWords W.meaning graph.old (asked_by graph.old words.now) world.new result }
+    ensures grown { GrowsByPaths graph.old graph.new }
     ensures words { IfOk result (λ requests. words_asked requests.items ≡ asked_by graph.old words.now) }
     ensures nodes { IfOk result (λ requests. AskForNodes graph.new requests.items) }
 {
@@ -73,6 +75,7 @@ fn requests_for<W: World>(
     ensures stops { IfErr result (StopsFor (IsUnknownOf graph.new asked.now)) }
     ensures bytes { StepByBytes W.meaning world.old world.new result }
     ensures names { FindsWords W.meaning graph.old asked.now world.new result }
+    ensures grown { GrowsByPaths graph.old graph.new }
     ensures words { IfOk result (λ requests. words_asked requests.items ≡ asked.now) }
     ensures nodes { IfOk result (λ requests. AskForNodes graph.new requests.items) }
 {

@@ -7,12 +7,13 @@ ghost use Rattle.scons_top.specs.Builds.{Builds, RemembersAt, RunBuilds};
 ghost use Rattle.scons_top.specs.Causes.{RunCauses};
 ghost use Rattle.scons_top.specs.Cleaned.{Cleans, RunCleans};
 ghost use Rattle.scons_top.specs.Complete.{RunCompletes};
+ghost use Rattle.scons_top.specs.Scripted.{DoesAt, ReportFollows, RunFollows, WordsFollow};
 ghost use Rattle.scons_top.specs.Finding.{RunTellsWords, TellsWordsOf};
 ghost use Rattle.scons_top.specs.Foreign.{OpensByBytes, RunByBytes, TellsBytes};
 ghost use Rattle.report_texts.specs.Texts.{help_text};
 ghost use Rattle.scons_top.specs.Printed.{ReportPrints, RunPrints, ServesPrinting, WordsPrint};
 ghost use Rattle.scons_top.specs.Sinks.{PrintsUpTo};
-ghost use Rattle.scons_top.specs.Requested.{AskForNodes};
+ghost use Rattle.scons_top.specs.Requested.{AskForNodes, nodes_asked};
 ghost use Rattle.scons_top.specs.Steps.{AllComeAt, ComesTo, IsRefused, LeavesAt, RefusesWords, RunEndsAt, RunsTo, ServesAt, TellsUsage};
 ghost use Rattle.scons_top.specs.Stopping.{RunsSafely};
 ghost use Rattle.scons_top.specs.Stops.{Reports, SinkReports};
@@ -83,6 +84,7 @@ pub fn scons<W: World, O: Sink, E: Sink>(
     ensures causes { RunCauses W.meaning O.meaning E.meaning world.old out.old err.old world.new out.new err.new result }
     ensures completes { (said : Words) → read words.now ≡ Ok said → RunCompletes W.meaning O.meaning E.meaning world.old out.old err.old world.new out.new err.new result }
     ensures prints { ReportPrints W.meaning O.meaning words.now world.old out.old world.new out.new result }
+    ensures follows { ReportFollows W.meaning O.meaning words.now world.old out.old world.new out.new result }
     ensures tells { TellsFaults E.meaning err.old err.new result }
 {
     let mut at = Step::Words;
@@ -117,6 +119,7 @@ fn take_words<W: World, O: Sink, E: Sink>(
     ensures passes { Passes W.meaning world.old world.new }
     ensures reports { Reports W.meaning O.meaning E.meaning world.old out.old err.old world.new out.new err.new result }
     ensures prints { WordsPrint W.meaning O.meaning words.now at.new world.old out.old world.new out.new result }
+    ensures follows { WordsFollow W.meaning O.meaning words.now at.new world.old out.old world.new out.new result }
     ensures tells { TellsOrStops E.meaning err.old err.new result }
     ensures idle { W.meaning.tells world.new → (W.meaning.around world.new).running ≡ [] }
     ensures dry { (said : Words) → read words.now ≡ Ok said → IsTrue said.dry → Looks W.meaning world.old world.new }
@@ -159,6 +162,7 @@ pub(crate) fn run<W: World, O: Sink, E: Sink>(
     ensures passes { Passes W.meaning world.old world.new }
     ensures reports { Reports W.meaning O.meaning E.meaning world.old out.old err.old world.new out.new err.new result }
     ensures prints { RunPrints W.meaning O.meaning words.now at.new world.old out.old world.new out.new result }
+    ensures follows { RunFollows W.meaning O.meaning words.now at.new world.old out.old world.new out.new result }
     ensures tells { TellsOrStops E.meaning err.old err.new result }
     ensures idle { W.meaning.tells world.new → (W.meaning.around world.new).running ≡ [] }
     ensures dry { IsTrue words.now.dry → Looks W.meaning world.old world.new }
@@ -218,6 +222,7 @@ fn serve<W: World, O: Sink, E: Sink>(
     ensures ends { RunEndsAt at.new result }
     ensures bytes { RunByBytes W.meaning at.new world.old world.new result }
     ensures cleans { AskForNodes graph.old requests.now → RunCleans W.meaning words.now at.new world.old world.new result }
+    ensures of { AskForNodes graph.old requests.now → DoesAt W.meaning words.now at.new graph.old (nodes_asked requests.now) world.old world.new result }
     ensures passes { Passes W.meaning world.old world.new }
     ensures reports { Reports W.meaning O.meaning E.meaning world.old out.old err.old world.new out.new err.new result }
     ensures prints { ServesPrinting W.meaning O.meaning words.now at.new graph.old requests.now world.old out.old world.new out.new result }

@@ -12,12 +12,13 @@ use Rattle.scons_top.proofs.Causing.{same_world, same_out, exit_report, report_m
 use Rattle.world_api.proofs.Looking.{looks_same}
 use Rattle.sign_store.specs.Stores.{map_of}
 use Rattle.build_run.proofs.Goings.{passes_on}
-use Rattle.scons_top.specs.Requested.{AreNodes}
+use Rattle.scons_top.specs.Requested.{AreNodes, nodes_asked}
 use Rattle.scons_top.proofs.Building.{stops, stops_begun}
 use Rattle.scons_top.proofs.Built.{build_done, built_looked}
 use Rattle.scons_top.proofs.Shown.{caused_skipping, ends_skipping, none_found, tells_skipping}
 use Rattle.scons_top.proofs.Watching.{idle_of, passes_of}
 use Rattle.scons_top.proofs.Requesting.{are_below_all}
+use Rattle.scons_top.proofs.Following.{builds_exit}
 use Rattle.scons_top.proofs.build_step.build_requests.Goals as goal
 
 pub returns-in_err-nodes-clause-reports : goal.returns-in_err-nodes-clause-reports
@@ -257,3 +258,26 @@ returns-then-has_trees-clause-tells g c =
 
 pub returns-clause-tells : goal.returns-clause-tells
 returns-clause-tells g c = tells_closed g.E.Sink.meaning _ _ c.build-end.result c.tell_end-written.result c.closed.result c.build-end.ensures.tells c.closed.ensures.whole c.closed.ensures.list
+
+pub returns-in_err-nodes-clause-of : goal.returns-in_err-nodes-clause-of
+returns-in_err-nodes-clause-of g c = λ asks. builds_exit g.W.Disk.meaning c.args.words.now c.args.graph.now (nodes_asked c.args.requests.now) c.args.world.now c.args.world.now c.from_residual.result _ c.from_residual.ensures.1 (returns-in_err-nodes-clause-builds g c asks)
+
+pub returns-in_err-store-clause-of : goal.returns-in_err-store-clause-of
+returns-in_err-store-clause-of g c = λ asks.
+    let r = c.from_residual-in_err-store in
+    builds_exit g.W.Disk.meaning c.args.words.now c.args.graph.now (nodes_asked c.args.requests.now) c.args.world.now c.begin_store.new.world r.result _ r.ensures.1 (returns-in_err-store-clause-builds g c asks)
+
+pub returns-in_err-say-clause-of : goal.returns-in_err-say-clause-of
+returns-in_err-say-clause-of g c = λ asks.
+    let r = c.from_residual-in_err-say in
+    builds_exit g.W.Disk.meaning c.args.words.now c.args.graph.now (nodes_asked c.args.requests.now) c.args.world.now c.begin_store.new.world r.result _ r.ensures.1 (returns-in_err-say-clause-builds g c asks)
+
+pub returns-then-has_trees-clause-of : goal.returns-then-has_trees-clause-of
+unfolding returns-then-has_trees-clause-builds built_looked build_done
+returns-then-has_trees-clause-of g c = λ asks ask tells sure.
+    inl (record { built = returns-then-has_trees-clause-builds g c asks ask tells sure; graph = refl; requested = c.as_slice.ensures.value ∙ c.in_ok-nodes.ensures.are })
+
+pub returns-clause-of : goal.returns-clause-of
+unfolding returns-clause-builds build_done
+returns-clause-of g c = λ asks ask tells sure.
+    inl (record { built = returns-clause-builds g c asks ask tells sure; graph = refl; requested = c.as_slice.ensures.value ∙ c.in_ok-nodes.ensures.are })

@@ -5,6 +5,7 @@ use Rattle.report_texts.specs.Texts.{reading_text, read_text}
 use Rattle.scons_top.proofs.Printing.{printed_none, read_begun, read_cut, read_exit, read_host, read_nearly, read_such, read_whole}
 use Rattle.scons_top.proofs.Watching.{watches_on}
 use Rattle.scons_top.proofs.Causing.{same_world, same_out, host_same, exit_step, world_stop, sink_stop, host_end_at, stop_back}
+use Rattle.scons_top.proofs.Declaring.{cut_tells, read_declared, read_silent, read_stopped, top_tells}
 use Rattle.scons_top.proofs.reading.read.Goals as goal
 
 pub returns-in_err-ask_for_top-clause-steps : goal.returns-in_err-ask_for_top-clause-steps
@@ -29,6 +30,10 @@ returns-in_err-graph g c = record {
       let said = c.args.words.now in
       let r = c.from_residual-in_err-graph in
       read_such m said step.Reading _ _ _ r.result r.ensures.1 (read_host m said _ _ _ (c.in_ok-say.ensures.prints reading_text c.reading_text.ensures) c.graph_of.ensures.prints);
+  reads =
+      let r = c.from_residual-in_err-graph in
+      read_stopped g.W.Disk.meaning g.O.Sink.meaning c.args.words.now c.args.world.now c.ask_for_top.new.world c.graph_of.new.world c.args.out.now c.say.new.out c.graph_of.new.out
+      c.ask_for_top.ensures.watches.looks c.graph_of.ensures.watches.looks (c.in_ok-say.ensures.prints reading_text c.reading_text.ensures) c.graph_of.ensures.prints _ r.result r.ensures.1 c.in_err-graph.ensures.reads;
 }
 
 pub returns-in_err-say-2 : goal.returns-in_err-say-2
@@ -47,6 +52,10 @@ returns-in_err-say-2 g c = record {
       let h = c.in_err-say-2.ensures.prints read_text c.read_text.ensures in
       read_cut m said step.Reading _ _ r.result _ r.ensures.1 h.0
       (read_nearly m said _ _ _ (read_host m said _ _ _ (c.in_ok-say.ensures.prints reading_text c.reading_text.ensures) c.graph_of.ensures.prints) h.1);
+  reads =
+      let r = c.from_residual-in_err-say-2 in
+      let h = c.in_err-say-2.ensures.prints read_text c.read_text.ensures in
+      read_silent g.W.Disk.meaning g.O.Sink.meaning c.args.words.now c.args.world.now _ c.args.out.now _ r.result _ r.ensures.1 (λ Is. cut_tells Is _ h.0);
 }
 
 pub returns : goal.returns
@@ -60,6 +69,10 @@ returns g c = record {
       let said = c.args.words.now in
       read_whole m said _ _ _ (read_host m said _ _ _ (c.in_ok-say.ensures.prints reading_text c.reading_text.ensures) c.graph_of.ensures.prints)
       (c.in_ok-say-2.ensures.prints read_text c.read_text.ensures);
+  reads =
+      read_declared g.W.Disk.meaning g.O.Sink.meaning c.args.words.now c.args.world.now c.ask_for_top.new.world c.graph_of.new.world c.args.out.now c.say.new.out c.graph_of.new.out
+      c.ask_for_top.ensures.watches.looks c.graph_of.ensures.watches.looks (c.in_ok-say.ensures.prints reading_text c.reading_text.ensures) c.graph_of.ensures.prints c.say-2.new.out c.in_ok-graph.graph
+      (c.in_ok-say-2.ensures.prints read_text c.read_text.ensures) c.in_ok-graph.ensures.reads;
 }
 
 pub returns-in_err-ask_for_top-clause-stops : goal.returns-in_err-ask_for_top-clause-stops
@@ -80,3 +93,13 @@ returns-in_err-say-clause-prints g c =
     let r = c.from_residual-in_err-say in
     let h = c.in_err-say.ensures.prints reading_text c.reading_text.ensures in
     read_cut m said step.Reading _ _ r.result _ r.ensures.1 h.0 (read_begun m said _ _ h.1)
+
+pub returns-in_err-ask_for_top-clause-reads : goal.returns-in_err-ask_for_top-clause-reads
+returns-in_err-ask_for_top-clause-reads g c =
+    read_silent g.W.Disk.meaning g.O.Sink.meaning c.args.words.now c.args.world.now _ c.args.out.now _ c.from_residual.result _ c.from_residual.ensures.1 (λ Is. top_tells Is _ c.in_err-ask_for_top.ensures.stops)
+
+pub returns-in_err-say-clause-reads : goal.returns-in_err-say-clause-reads
+returns-in_err-say-clause-reads g c =
+    let r = c.from_residual-in_err-say in
+    let h = c.in_err-say.ensures.prints reading_text c.reading_text.ensures in
+    read_silent g.W.Disk.meaning g.O.Sink.meaning c.args.words.now c.args.world.now _ c.args.out.now _ r.result _ r.ensures.1 (λ Is. cut_tells Is _ h.0)

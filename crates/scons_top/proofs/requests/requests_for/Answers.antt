@@ -13,6 +13,7 @@ use Rattle.scons_top.proofs.Grown.{grown_here, grown_on}
 use Rattle.scons_top.proofs.Requesting.{asks_pushed, words_pushed}
 use Rattle.scons_top.proofs.Watching.{watches_on, watches_same}
 use Rattle.scons_top.proofs.Causing.{world_back, world_exit, world_memory}
+use Rattle.scons_top.proofs.Declaring.{grows_by_paths}
 use Rattle.scons_top.proofs.requests.requests_for.Goals as goal
 
 pub returns-in_err-request_of-clause-watches : goal.returns-in_err-request_of-clause-watches
@@ -102,3 +103,17 @@ returns-in_err-push-clause-names g c = words_memory g.W.Disk.meaning c.args.grap
 
 pub returns-clause-names : goal.returns-clause-names
 returns-clause-names g c = words_all g.W.Disk.meaning c.args.graph.now c.args.asked.now c.loop-word.word-index c.loop-word.world c.loop-word-test.false c.loop-word.invariant.names
+
+pub returns-in_err-request_of-clause-grown : goal.returns-in_err-request_of-clause-grown
+returns-in_err-request_of-clause-grown g c =
+    grows_by_paths c.args.graph.now c.request_of.new.graph (grown_on c.args.graph.now c.loop-word.graph c.request_of.new.graph c.loop-word.invariant.grown c.request_of.ensures.grown)
+    (record { apart = c.laws.ensures.apart; single = c.laws.ensures.single; named = c.laws.ensures.named })
+
+pub returns-in_err-push-clause-grown : goal.returns-in_err-push-clause-grown
+returns-in_err-push-clause-grown g c =
+    grows_by_paths c.args.graph.now c.request_of.new.graph (grown_on c.args.graph.now c.loop-word.graph c.request_of.new.graph c.loop-word.invariant.grown c.request_of.ensures.grown)
+    (record { apart = c.laws.ensures.apart; single = c.laws.ensures.single; named = c.laws.ensures.named })
+
+pub returns-clause-grown : goal.returns-clause-grown
+returns-clause-grown g c =
+    grows_by_paths c.args.graph.now c.loop-word.graph c.loop-word.invariant.grown (record { apart = c.laws.ensures.apart; single = c.laws.ensures.single; named = c.laws.ensures.named })

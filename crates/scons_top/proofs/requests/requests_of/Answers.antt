@@ -5,6 +5,7 @@ use Rattle.scons_top.specs.Asked.{asked_by, IsUnknownOf, StopsFor}
 use Rattle.scons_top.specs.Finding.{FindsWords}
 use Rattle.scons_top.proofs.Finding.{words_memory}
 use Rattle.scons_top.proofs.Causing.{world_memory}
+use Rattle.scons_top.proofs.Declaring.{grows_here}
 use Rattle.scons_top.proofs.requests.requests_of.Goals as goal
 
 pub returns-in_err-asked-in-empty-clause-step : goal.returns-in_err-asked-in-empty-clause-step
@@ -42,3 +43,12 @@ returns-clause-names g c =
     let asked = asked_by c.args.graph.now c.args.words.now in
     let same : c.as_slice-2.result.now ≡ asked = search rules in
     subst (λ (words : List (List ℕ)). FindsWords g.W.Disk.meaning c.args.graph.now words c.requests_for.new.world c.requests_for.result) same c.requests_for.ensures.names
+
+pub returns-in_err-asked-in-empty-clause-grown : goal.returns-in_err-asked-in-empty-clause-grown
+returns-in_err-asked-in-empty-clause-grown g c = grows_here c.args.graph.now
+
+pub returns-in_err-asked-in_default-clause-grown : goal.returns-in_err-asked-in_default-clause-grown
+returns-in_err-asked-in_default-clause-grown g c = grows_here c.args.graph.now
+
+pub returns-clause-grown : goal.returns-clause-grown
+returns-clause-grown g c = c.requests_for.ensures.grown

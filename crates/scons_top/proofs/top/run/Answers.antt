@@ -13,10 +13,11 @@ use Rattle.scons_top.proofs.Early.{any_stop, stop_after}
 use Rattle.std.proofs.Common.{◌∙◌, ap, inl, subst, sym}
 use Rattle.build_run.specs.Causes.{Outside}
 use Rattle.scons_top.specs.Asked.{words_asked}
-use Rattle.scons_top.specs.Requested.{AskForNodes}
+use Rattle.scons_top.specs.Requested.{AskForNodes, nodes_asked}
 use Rattle.scons_top.proofs.Building.{no_help, stops}
 use Rattle.scons_top.proofs.Built.{builds_looked}
 use Rattle.scons_top.proofs.Causing.{same_world, exit_report, world_stop, stop_back, report_back}
+use Rattle.scons_top.proofs.Following.{does_looked, follows_asked, follows_help, follows_read, follows_served}
 use Rattle.scons_top.proofs.top.run.Goals as goal
 
 pub returns-in_err-requests-clause-dry : goal.returns-in_err-requests-clause-dry
@@ -221,3 +222,42 @@ returns-clause-asks g c =
     run_behind g.W.Disk.meaning c.args.words.now c.in_ok-graph.graph c.args.world.now c.requests_of.new.world
     (looks_joined _ _ _ _ c.read.ensures.watches.looks c.requests_of.ensures.watches.looks) c.requires.idle c.serve.new.at c.serve.new.world c.serve.result
     c.serve.ensures.passes.told.told c.in_ok-requests.ensures.names (λ word. serves_else c.args.words.now _ word c.serve.ensures.serves) c.serve.ensures.ends
+
+pub returns-in_err-graph-clause-follows : goal.returns-in_err-graph-clause-follows
+returns-in_err-graph-clause-follows g c =
+    follows_read g.W.Disk.meaning g.O.Sink.meaning c.args.words.now c.read.new.at c.args.world.now c.read.new.world c.args.out.now c.read.new.out c.from_residual.result _ c.read.ensures.reading
+    c.from_residual.ensures.1 c.read.ensures.watches.looks c.requires.idle c.in_err-graph.ensures.reads
+
+pub returns-then-words-clause-follows : goal.returns-then-words-clause-follows
+returns-then-words-clause-follows g c =
+    follows_help g.W.Disk.meaning g.O.Sink.meaning c.args.words.now c.in_ok-graph.graph c.args.world.now c.read.new.world c.args.out.now c.read.new.out c.read.ensures.watches.looks c.requires.idle
+    c.in_ok-graph.ensures.reads c.help.new.out c.help.result c.help.ensures.prints
+
+pub returns-in_err-requests-clause-follows : goal.returns-in_err-requests-clause-follows
+returns-in_err-requests-clause-follows g c =
+    let r = c.from_residual-in_err-requests in
+    let looks = c.read.ensures.watches.looks in
+    let on = c.requests_of.ensures.watches.looks in
+    follows_asked g.W.Disk.meaning g.O.Sink.meaning c.args.words.now c.in_ok-graph.graph c.args.world.now c.read.new.world c.args.out.now c.read.new.out looks c.requires.idle c.in_ok-graph.ensures.reads
+    c.requests_of.new.world on (looks_joined _ _ _ _ looks on) r.result _ r.ensures.1 c.in_err-requests.ensures.names
+
+pub returns-clause-follows : goal.returns-clause-follows
+returns-clause-follows g c =
+    let m = g.W.Disk.meaning in
+    let said = c.args.words.now in
+    let old = c.args.world.now in
+    let here = c.requests_of.new.world in
+    let new = c.serve.new.world in
+    let graph = c.requests_of.new.graph in
+    let requests = c.as_slice.result.now in
+    let asks = subst (AskForNodes graph) (sym c.as_slice.ensures.value) c.in_ok-requests.ensures.nodes in
+    let looks = c.read.ensures.watches.looks in
+    let on = c.requests_of.ensures.watches.looks in
+    let all = looks_joined m _ _ _ looks on in
+    let counts = c.in_ok-requests.ensures.step ∙ ap (λ (o : Outside). o.counts) (c.in_ok-graph.ensures.steps 0) in
+    follows_served m g.O.Sink.meaning said c.in_ok-graph.graph old c.read.new.world c.args.out.now c.read.new.out looks c.requires.idle c.in_ok-graph.ensures.reads
+    here on all graph requests c.requests_of.ensures.grown (ap words_asked c.as_slice.ensures.value ∙ c.in_ok-requests.ensures.words) asks c.in_ok-requests.ensures.names new c.serve.new.out c.serve.result
+    c.serve.new.at c.serve.ensures.serves c.serve.ensures.passes.told.told
+    (does_looked m said graph (nodes_asked requests) old here new c.serve.result g.met.W.Disk.only_now (watches_on m _ _ _ c.read.ensures.watches c.requests_of.ensures.watches) c.serve.ensures.passes.told
+    c.requires.idle counts (steps_looked m g.met.W.Disk.only_now old here all) c.serve.new.at (c.serve.ensures.of asks))
+    (c.serve.ensures.prints asks)

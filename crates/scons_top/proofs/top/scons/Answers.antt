@@ -10,6 +10,7 @@ use Rattle.scons_top.proofs.Asking.{none_told, told_alone}
 use Rattle.scons_top.proofs.Keeping.{remembers_at}
 use Rattle.scons_top.proofs.Stepping.{alone_as, comes_as, leaves_as, faults_as, alone_at, not_refused, one_at, refuses, reports_refused, usage_told, usage_reported}
 use Rattle.std.proofs.Common.{inl, inr}
+use Rattle.scons_top.proofs.Following.{follows_as, follows_ended}
 use Rattle.scons_top.proofs.top.scons.Goals as goal
 
 pub returns-in-Err-clause-causes : goal.returns-in-Err-clause-causes
@@ -126,3 +127,20 @@ returns-in-Ok-clause-asks g c = λ said is t. report_words said _ _ _ c.in-Ok.re
 
 pub returns-in-Err-clause-asks : goal.returns-in-Err-clause-asks
 returns-in-Err-clause-asks g c = λ said is t. stop_words said _ _ _ _ c.ended.result c.ended.ensures.at c.ended.ensures.alone (c.in-Err.ensures.asks said is t)
+
+pub returns-in-Ok-clause-follows : goal.returns-in-Ok-clause-follows
+returns-in-Ok-clause-follows g c = λ said is.
+    follows_as g.W.Disk.meaning g.O.Sink.meaning said _ _ c.args.world.now c.args.out.now c.take_words.new.world c.take_words.new.out (Ok c.in-Ok.report) c.in-Ok.ensures.ends.ends
+    (c.in-Ok.ensures.follows said is)
+
+pub returns-in-Err-clause-follows : goal.returns-in-Err-clause-follows
+returns-in-Err-clause-follows g c = λ said is.
+    let m = g.W.Disk.meaning in
+    let p = g.O.Sink.meaning in
+    let old = c.args.world.now in
+    let new = c.take_words.new.world in
+    let out = c.args.out.now in
+    let after = c.take_words.new.out in
+    follows_as m p said _ _ old out new after (Ok c.ended.result) c.ended.ensures.at
+    (follows_ended m p said old out new after c.in-Err.stop c.ended.result c.ended.ensures.fails c.ended.ensures.skipped c.ended.ensures.alone
+    (cut_ended c.in-Err.stop c.ended.result c.ended.ensures.told) c.take_words.new.at (c.in-Err.ensures.follows said is))

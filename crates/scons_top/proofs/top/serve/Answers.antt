@@ -5,6 +5,7 @@ use Rattle.scons_top.proofs.Clearing.{asked_or_stops, not_listing, not_building}
 use Rattle.scons_top.proofs.Stepping.{listing_serves, building_serves, leaves_listing}
 use Rattle.scons_top.proofs.Stopping.{steps_looked}
 use Rattle.scons_top.proofs.Building.{no_clean, no_dry}
+use Rattle.scons_top.proofs.Following.{builds_so, cleans_so, lists_so}
 use Rattle.scons_top.proofs.top.serve.Goals as goal
 
 pub returns-then-words-clause-reports : goal.returns-then-words-clause-reports
@@ -77,3 +78,16 @@ returns-then-words-clause-prints g c = λ asks. c.clean_requests.ensures.prints 
 
 pub returns-then-words-2-clause-prints : goal.returns-then-words-2-clause-prints
 returns-then-words-2-clause-prints g c = λ asks. c.list_requests.ensures.prints asks
+
+pub returns-then-words-clause-of : goal.returns-then-words-clause-of
+returns-then-words-clause-of g c = λ asks.
+    cleans_so g.W.Disk.meaning c.args.words.now c.args.graph.now (nodes_asked c.args.requests.now) c.args.world.now c.clean_requests.new.world c.clean_requests.result (c.clean_requests.ensures.cleans asks)
+
+pub returns-then-words-2-clause-of : goal.returns-then-words-2-clause-of
+returns-then-words-2-clause-of g c = λ asks.
+    lists_so g.W.Disk.meaning c.args.words.now c.args.graph.now (nodes_asked c.args.requests.now) c.args.world.now c.list_requests.new.world c.list_requests.new.at c.list_requests.result c.list_requests.ensures.listing
+
+pub returns-clause-of : goal.returns-clause-of
+returns-clause-of g c = λ asks.
+    builds_so g.W.Disk.meaning c.args.words.now c.args.graph.now (nodes_asked c.args.requests.now) c.args.world.now c.build_requests.new.world c.build_requests.new.at c.build_requests.result
+    c.build_requests.ensures.building (c.build_requests.ensures.of asks)

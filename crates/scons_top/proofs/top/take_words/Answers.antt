@@ -16,6 +16,7 @@ use Rattle.scons_top.specs.Finding.{RunTellsWords}
 use Rattle.scons_top.proofs.Wording.{run_untold}
 use Rattle.scons_top.proofs.Building.{no_load, stops, words_said}
 use Rattle.scons_top.proofs.Causing.{exit_report, words_stop}
+use Rattle.scons_top.specs.Scripted.{RunFollows}
 use Rattle.scons_top.proofs.top.take_words.Goals as goal
 
 pub returns-in_err-words-clause-reports : goal.returns-in_err-words-clause-reports
@@ -164,3 +165,14 @@ pub returns-clause-asks : goal.returns-clause-asks
 returns-clause-asks g c = λ said is.
     subst (λ (s : Words). RunTellsWords g.W.Disk.meaning s c.run.new.at c.args.world.now c.run.new.world c.run.result)
     (words_said (read c.args.words.now) c.in_ok-words.words said c.in_ok-words.ensures.ok is) c.run.ensures.asks
+
+pub returns-in_err-words-clause-follows : goal.returns-in_err-words-clause-follows
+returns-in_err-words-clause-follows g c = λ said is told tells. tt
+
+pub returns-in-Some-clause-follows : goal.returns-in-Some-clause-follows
+returns-in-Some-clause-follows g c = λ said is told tells. tt
+
+pub returns-clause-follows : goal.returns-clause-follows
+returns-clause-follows g c = λ said is.
+    subst (λ (s : Words). RunFollows g.W.Disk.meaning g.O.Sink.meaning s c.run.new.at c.args.world.now c.args.out.now c.run.new.world c.run.new.out c.run.result)
+    (words_said (read c.args.words.now) c.in_ok-words.words said c.in_ok-words.ensures.ok is) c.run.ensures.follows
