@@ -2,6 +2,7 @@ pub mod Alone
 pub mod Below
 pub mod Naming
 pub mod Finding
+pub mod LookedUp
 pub mod Asked
 pub mod Remembered
 pub mod Builds
@@ -9,6 +10,7 @@ pub mod Counted
 pub mod Causes
 pub mod Cleaned
 pub mod Complete
+pub mod Completed
 pub mod Endings
 pub mod Faults
 pub mod Foreign
