@@ -2,6 +2,7 @@ pub mod Alone
 pub mod Below
 pub mod Naming
 pub mod Finding
+pub mod LookedUp
 pub mod Asked
 pub mod Remembered
 pub mod Builds
@@ -10,6 +11,7 @@ pub mod Scripted
 pub mod Causes
 pub mod Cleaned
 pub mod Complete
+pub mod Completed
 pub mod Endings
 pub mod Faults
 pub mod Foreign

@@ -1,7 +1,8 @@
 //! Whether a path is copied into a variant directory.
-ghost use Rattle.std.specs.Prelude.{◌≡◌, None, IfOk, is_some, length, if◌then◌else◌};
+ghost use Rattle.std.specs.Prelude.{◌≡◌, None, IfOk, length, if◌then◌else◌};
 ghost use Rattle.build_files.specs.Causes.{HasLookCause};
-ghost use Rattle.build_files.specs.Leftovers.{copied_from, is_copied, is_source};
+ghost use Rattle.build_files.specs.Leftovers.{is_copied, is_source};
+ghost use Rattle.scons_top.specs.LookedUp.{TellsCopied};
 ghost use Rattle.variant_dirs.specs.Variants.{source_of};
 ghost use Rattle.world_api.specs.Looks.{Looks};
 
@@ -21,7 +22,7 @@ pub(crate) fn has_copy<W: World>(
 ) -> Result<bool, ListEnd>
     ensures looks { Looks W.meaning world.old world.new }
     ensures cause { HasLookCause (W.meaning.counts world.old) (W.meaning.counts world.new) result }
-    ensures is { W.meaning.tells world.new → IfOk result (λ is. is ≡ is_some (copied_from graph.now (length graph.now.rules) (W.meaning.around world.new) path.now)) }
+    ensures is { TellsCopied W.meaning graph.now path.now world.new result }
 {
     match source_in(graph, path)? {
         Some(source) => is_source(world, graph, &source),

@@ -5,9 +5,10 @@ ghost use Rattle.build_files.specs.Leftovers.{is_made};
 ghost use Rattle.node_tree.specs.Nodes.{AreApart};
 ghost use Rattle.scons_top.specs.Asked.{asked_by, asked_of, word_of, words_asked};
 ghost use Rattle.scons_top.specs.Asked.{IsReadAs, IsUnknownAs, IsUnknownOf, IsWord, IsWordIn, NamesNone, StopsFor};
-ghost use Rattle.scons_top.specs.Below.{has_below, KnowsTargets};
+ghost use Rattle.scons_top.specs.Below.{KnowsTargets};
+ghost use Rattle.scons_top.specs.Finding.{AreOf, CountsOrAbove, Finds, FindsPath, FindsWord, FindsWords, IsLeftAlone, TellsRule};
 ghost use Rattle.scons_top.specs.Scripted.{GrowsByPaths};
-ghost use Rattle.scons_top.specs.Finding.{AreOf, CountsOrAbove, Finds, FindsPath, FindsWord, FindsWords, FoundOrUnknown, IsLeftAlone, TellsRule};
+ghost use Rattle.scons_top.specs.LookedUp.{FindsBelow};
 ghost use Rattle.scons_top.specs.Foreign.{StepByBytes, StepOnNone, StopsByBytes};
 ghost use Rattle.scons_top.specs.Naming.{HasGrown};
 ghost use Rattle.scons_top.specs.Requested.{AsksForNodes, AskForNodes, HasMore, KnowsNodes};
@@ -230,7 +231,7 @@ fn absent_request(
     ensures nodes { KnowsNodes graph.now lookups.old.below → IfOk result (AsksForNodes graph.now) }
     ensures lists { KnowsTargets graph.now lookups.old.below → KnowsTargets graph.now lookups.new.below }
     ensures view { lookups.new.view ≡ lookups.old.view }
-    ensures finds { KnowsTargets graph.now lookups.old.below → FoundOrUnknown (has_below graph.now path.now ≡ true) (has_below graph.now path.now ≡ false) result }
+    ensures finds { KnowsTargets graph.now lookups.old.below → FindsBelow graph.now path.now result }
 {
     let nodes = lookups.below.targets_below(alloc, graph, path)?;
     if nodes.is_empty() {
