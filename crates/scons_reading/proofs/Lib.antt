@@ -2,6 +2,7 @@ mod Beginning
 mod Carrying
 mod Coming
 mod Finding
+mod Firsts
 mod Growing
 mod Moving
 mod Overs

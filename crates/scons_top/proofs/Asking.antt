@@ -29,12 +29,13 @@ use Rattle.scons_top.specs.declared.stop.OwnFault.{OwnFault}
 use Rattle.scons_top.specs.declared.stop.OwnFault.TheVariants as own
 use Rattle.scons_top.specs.declared.stop.Stop.{Stop}
 use Rattle.scons_top.specs.declared.stop.Stop.TheVariants as stop
-use Rattle.scons_top.specs.Asked.{asked_of, IsReadAs, IsToldUnknown, StopsUnknown, IsNoPath, IsUnknown, IsUnknownAs, IsUnknownOf, IsWord, IsWordIn, NamesNone, StopsFor}
+use Rattle.scons_top.specs.Asked.{asked_of, IsReadAs, IsToldUnknown, StopsUnknown, IsMissing, IsNoPath, IsUnknown, IsUnknownAs, IsUnknownOf, IsWord, IsWordIn, NamesNone, StopsFor}
 use Rattle.scons_words.specs.declared.words.Words.{Words}
 use Rattle.rule_graph.specs.declared.wish.Wish.{Wish}
 use Rattle.scons_top.specs.declared.report.Report.{Report}
 use Rattle.scons_top.specs.declared.step.Step.{Step}
 use Rattle.scons_top.specs.Faults.{EarlyOnlyIf, IsEarly, IsLateStop, top_of_own}
+use Rattle.scons_top.specs.Finding.{MissingOnlyIf}
 use Rattle.scons_top.specs.Foreign.{StopsByBytes}
 use Rattle.scons_top.specs.Steps.{ComesAt, IsReadingStep, IsStopOr, RunEndsAt, ServesAt, StopsAt}
 use Rattle.scons_top.proofs.Stepping.{building_fault, ends_stops}
@@ -42,68 +43,90 @@ use Rattle.scons_top.specs.Stops.{top_of, stop_of_list, stop_of_store, IsInside}
 
 -- of words of which more holds
 
-fault_weaker : (P Q : List ℕ → Type 0) (f : OwnFault) → ((word : List ℕ) → P word → Q word) → StopsFor P (stop.Fault f) → StopsFor Q (stop.Fault f)
+fault_weaker : (P Q : Top → Type 0) (f : OwnFault) → ((f : Top) → P f → Q f) → StopsFor P (stop.Fault f) → StopsFor Q (stop.Fault f)
 fault_weaker P Q (own.Usage place kind) by h = h
 fault_weaker P Q (own.Reading file line kind) by h = h
-fault_weaker P Q (own.UnknownTarget word) by h = by word h
+fault_weaker P Q (own.UnknownTarget word) by h = by (top.UnknownTarget word) h
 fault_weaker P Q (own.StoreForeign bank) by h = h
 
-pub stops_weaker : (P Q : List ℕ → Type 0) (s : Stop) → ((word : List ℕ) → P word → Q word) → StopsFor P s → StopsFor Q s
+build_weaker : (P Q : Top → Type 0) (f : BuildFault) → ((f : Top) → P f → Q f) → StopsFor P (stop.Build f) → StopsFor Q (stop.Build f)
+build_weaker P Q (fault.Missing node target) by h = by (top.Missing node target) h
+build_weaker P Q (fault.Cycle paths) by h = h
+build_weaker P Q (fault.ActionFailed target code) by h = h
+build_weaker P Q (fault.TreeFault path) by h = h
+build_weaker P Q (fault.StartFault target) by h = h
+build_weaker P Q fault.StoreFault by h = h
+build_weaker P Q fault.OutFault by h = h
+build_weaker P Q (fault.TooLarge path size) by h = h
+build_weaker P Q (fault.TooMany what count) by h = h
+
+pub stops_weaker : (P Q : Top → Type 0) (s : Stop) → ((f : Top) → P f → Q f) → StopsFor P s → StopsFor Q s
 stops_weaker P Q (stop.Fault f) by h = fault_weaker P Q f by h
-stops_weaker P Q (stop.Build f) by h = h
+stops_weaker P Q (stop.Build f) by h = build_weaker P Q f by h
 stops_weaker P Q stop.Memory by h = h
 
-pub ends_weaker : {T : Type 0} (P Q : List ℕ → Type 0) (r : Result T Stop) → ((word : List ℕ) → P word → Q word) → IfErr r (StopsFor P) → IfErr r (StopsFor Q)
+pub ends_weaker : {T : Type 0} (P Q : Top → Type 0) (r : Result T Stop) → ((f : Top) → P f → Q f) → IfErr r (StopsFor P) → IfErr r (StopsFor Q)
 ends_weaker P Q (Ok value) by h = tt
 ends_weaker P Q (Err s) by h = stops_weaker P Q s by h
 
 -- whichever words they are
-fault_asked : (P : List ℕ → Type 0) (f : OwnFault) → StopsFor P (stop.Fault f) → ComesAt step.Requests (top_of_own f)
+fault_asked : (P : Top → Type 0) (f : OwnFault) → StopsFor P (stop.Fault f) → ComesAt step.Requests (top_of_own f)
 fault_asked P (own.Usage place kind) h = h
 fault_asked P (own.Reading file line kind) h = h
 fault_asked P (own.UnknownTarget word) h = tt
 fault_asked P (own.StoreForeign bank) h = h
 
-pub stops_asked : (P : List ℕ → Type 0) (s : Stop) → StopsFor P s → StopsAt step.Requests s
+build_asked : (P : Top → Type 0) (f : BuildFault) → StopsFor P (stop.Build f) → ComesAt step.Requests (top_of f)
+build_asked P (fault.Missing node target) h = tt
+build_asked P (fault.Cycle paths) h = h
+build_asked P (fault.ActionFailed target code) h = h
+build_asked P (fault.TreeFault path) h = h
+build_asked P (fault.StartFault target) h = h
+build_asked P fault.StoreFault h = h
+build_asked P fault.OutFault h = h
+build_asked P (fault.TooLarge path size) h = h
+build_asked P (fault.TooMany what count) h = h
+
+pub stops_asked : (P : Top → Type 0) (s : Stop) → StopsFor P s → StopsAt step.Requests s
 stops_asked P (stop.Fault f) h = fault_asked P f h
-stops_asked P (stop.Build f) h = h
+stops_asked P (stop.Build f) h = build_asked P f h
 stops_asked P stop.Memory h = h
 
 -- the exits of a `?`
 
-pub asked_exit : {T : Type 0} (P : List ℕ → Type 0) (r : Result T Stop) (s : Stop) → IsErrAnd r (λ x. x ≡ s) → StopsFor P s → IfErr r (StopsFor P)
+pub asked_exit : {T : Type 0} (P : Top → Type 0) (r : Result T Stop) (s : Stop) → IsErrAnd r (λ x. x ≡ s) → StopsFor P s → IfErr r (StopsFor P)
 asked_exit P (Ok value) s is h = absurd is
 asked_exit P (Err x) s is h = subst (StopsFor P) (sym is) h
 
-pub asked_memory : {T : Type 0} (P : List ℕ → Type 0) (r : Result T Stop) → IsErrAnd r (λ s. s ≡ stop.Memory) → IfErr r (StopsFor P)
+pub asked_memory : {T : Type 0} (P : Top → Type 0) (r : Result T Stop) → IsErrAnd r (λ s. s ≡ stop.Memory) → IfErr r (StopsFor P)
 asked_memory P r is = asked_exit P r stop.Memory is tt
 
-look_fault : (a b : Counts) (f : BuildFault) → HasLookFault a b f → ComesAt step.Requests (top_of f)
-look_fault a b (fault.Missing node target) h = absurd h
-look_fault a b (fault.Cycle paths) h = absurd h
-look_fault a b (fault.ActionFailed target code) h = absurd h
-look_fault a b (fault.TreeFault path) h = tt
-look_fault a b (fault.StartFault target) h = absurd h
-look_fault a b fault.StoreFault h = absurd h
-look_fault a b fault.OutFault h = absurd h
-look_fault a b (fault.TooLarge path size) h = tt
-look_fault a b (fault.TooMany what count) h = tt
+look_fault : (P : Top → Type 0) (a b : Counts) (f : BuildFault) → HasLookFault a b f → StopsFor P (stop.Build f)
+look_fault P a b (fault.Missing node target) h = absurd h
+look_fault P a b (fault.Cycle paths) h = absurd h
+look_fault P a b (fault.ActionFailed target code) h = absurd h
+look_fault P a b (fault.TreeFault path) h = tt
+look_fault P a b (fault.StartFault target) h = absurd h
+look_fault P a b fault.StoreFault h = absurd h
+look_fault P a b fault.OutFault h = absurd h
+look_fault P a b (fault.TooLarge path size) h = tt
+look_fault P a b (fault.TooMany what count) h = tt
 
-pub look_at : (P : List ℕ → Type 0) (a b : Counts) (e : ListEnd) → HasEndCause a b e → StopsFor P (stop_of_list e)
-look_at P a b (list_end.Fault f) h = look_fault a b f h
+pub look_at : (P : Top → Type 0) (a b : Counts) (e : ListEnd) → HasEndCause a b e → StopsFor P (stop_of_list e)
+look_at P a b (list_end.Fault f) h = look_fault P a b f h
 look_at P a b list_end.Memory h = tt
 
-pub asked_list : {T : Type 0} (P : List ℕ → Type 0) (r : Result T Stop) (e : ListEnd) → IsErrAnd r (λ s. IsLateStop s × (s ≡ stop_of_list e)) → StopsFor P (stop_of_list e) → IfErr r (StopsFor P)
+pub asked_list : {T : Type 0} (P : Top → Type 0) (r : Result T Stop) (e : ListEnd) → IsErrAnd r (λ s. IsLateStop s × (s ≡ stop_of_list e)) → StopsFor P (stop_of_list e) → IfErr r (StopsFor P)
 asked_list P (Ok value) e is h = absurd is
 asked_list P (Err s) e is h = subst (StopsFor P) (sym is.1) h
 
-store_asked : (P : List ℕ → Type 0) (e : StoreRefusal) → StopsFor P (stop_of_store e)
+store_asked : (P : Top → Type 0) (e : StoreRefusal) → StopsFor P (stop_of_store e)
 store_asked P refusal.Fault = tt
 store_asked P (refusal.Foreign bank) = tt
 store_asked P (refusal.Large size) = tt
 store_asked P refusal.Memory = tt
 
-pub store_asks : (P : List ℕ → Type 0) (s : Stop) (e : StoreRefusal) → s ≡ stop_of_store e → StopsFor P s
+pub store_asks : (P : Top → Type 0) (s : Stop) (e : StoreRefusal) → s ≡ stop_of_store e → StopsFor P s
 store_asks P s e is = subst (StopsFor P) (sym is) (store_asked P e)
 
 pub node_stops : {T : Type 0} (r : Result T Stop) → IsErrAnd r (λ s. IsInside s × StopsFor NamesNone s × ((banks : Banks) → StopsByBytes banks s)) → IfErr r (StopsFor NamesNone)
@@ -111,8 +134,32 @@ node_stops (Ok value) is = absurd is
 node_stops (Err s) is = is.1
 
 -- no word
-pub none_as : (P : List ℕ → Type 0) (word : List ℕ) → NamesNone word → P word
-none_as P word h = absurd h
+pub none_as : (P : Top → Type 0) (f : Top) → NamesNone f → P f
+none_as P f h = absurd h
+
+-- a word, in a graph that stays as it is
+pub word_in : (g : RuleGraph) (word : List ℕ) (f : Top) → IsWord word f → IsWordIn g g word f
+word_in g word (top.UnknownTarget other) is = (is, refl)
+word_in g word f is = absurd is
+
+-- a member of an alias
+pub missing_as : (word path : List ℕ) (f : Top) → IsMissing word path f → IsNoPath word f
+missing_as word path (top.UnknownTarget other) is = is
+missing_as word path (top.Missing node target) is = is.1
+missing_as word path f is = absurd is
+
+-- ---- members that are told to be missing
+
+pub misses_none : (P : Top → Type 0) (Q : List ℕ → Type 0) (s : Stop) → ((node target : List ℕ) → P (top.Missing node target) → ⊥) → StopsFor P s → MissingOnlyIf Q s
+misses_none P Q s none h = λ node target is. absurd (none node target (subst (StopsFor P) is h))
+
+pub misses_by : {T : Type 0} (P : Top → Type 0) (Q : List ℕ → Type 0) (r : Result T Stop) → ((node target : List ℕ) → P (top.Missing node target) → ⊥) → IfErr r (StopsFor P) → IfErr r (MissingOnlyIf Q)
+misses_by P Q (Ok value) none h = tt
+misses_by P Q (Err s) none h = misses_none P Q s none h
+
+pub misses_exit : {T : Type 0} (Q : List ℕ → Type 0) (r : Result T Stop) (s : Stop) → IsErrAnd r (λ x. x ≡ s) → MissingOnlyIf Q s → IfErr r (MissingOnlyIf Q)
+misses_exit Q (Ok value) s is h = absurd is
+misses_exit Q (Err x) s is h = subst (MissingOnlyIf Q) (sym is) h
 
 -- a word that isn't known
 
@@ -133,8 +180,16 @@ pub unknown_alias : (g : RuleGraph) (word name : List ℕ) (members : List NodeI
 unknown_alias g word name members same is h = unknown_some g word (members_of g.aliases word) members (subst (λ (w : List ℕ). members_of g.aliases w ≡ Some members) same is) h
 
 -- by the graph as it was
-pub unknown_at : (old new : RuleGraph) (word other : List ℕ) → IsUnknown old word → IsWordIn old new word other → IsUnknownAs new word other
-unknown_at old new word other h is = (is.0, subst (λ (g : RuleGraph). IsUnknown g word) (sym is.1) h)
+pub unknown_at : (old new : RuleGraph) (word : List ℕ) (f : Top) → IsUnknown old word → IsWordIn old new word f → IsUnknownAs new word f
+unknown_at old new word (top.UnknownTarget other) h is = (is.0, subst (λ (g : RuleGraph). IsUnknown g word) (sym is.1) h)
+unknown_at old new word f h is = absurd is
+
+-- of an alias
+pub alias_known : (g : RuleGraph) (word name : List ℕ) (members : List NodeId) → name ≡ word → members_of g.aliases name ≡ Some members
+    → (f : Top) → IsNoPath word f → IsUnknownAs g word f
+alias_known g word name members same some (top.UnknownTarget other) is = (is.0, unknown_alias g word name members same some is.1)
+alias_known g word name members same some (top.Missing node target) is = is
+alias_known g word name members same some f is = absurd is
 
 pub target_spelled : (g : RuleGraph) (word above path spelled : List ℕ) → path ≡ word → above ≡ g.top → spelled ≡ spelling above path → is_made g spelled ≡ false
     → is_made g (spelling g.top word) ≡ false
@@ -170,17 +225,19 @@ pub no_path : (text word : List ℕ) (fault : PathFault) → fault_in text ≡ S
 no_path text word fault is same = sym (ap is_path same) ∙ ap (λ (f : Option PathFault). is_none f) is
 
 -- among those that are asked for
-pub unknown_of : (g : RuleGraph) (words : List (List ℕ)) (i : ℕ) (d word other : List ℕ) → i < length words → word ≡ get_or words i d → IsUnknownAs g word other → IsUnknownOf g words other
-unknown_of g words i d word other lt at h =
+pub unknown_of : (g : RuleGraph) (words : List (List ℕ)) (i : ℕ) (d word : List ℕ) (f : Top) → i < length words → word ≡ get_or words i d → IsUnknownAs g word f → IsUnknownOf g words f
+unknown_of g words i d word (top.Missing node target) lt at h = subst (Contains words) (sym (h ∙ at)) (Contains-get_or words i d lt)
+unknown_of g words i d word (top.UnknownTarget other) lt at h =
     let same = h.0 ∙ at in
     (subst (Contains words) (sym same) (Contains-get_or words i d lt), subst (IsUnknown g) (sym h.0) h.1)
+unknown_of g words i d word f lt at h = absurd h
 
 -- what a run tells of it
 
 told_by : (said : Words) (defaults : List Wish) (g : RuleGraph) (s : Stop) (word : List ℕ) → s ≡ stop.Fault (own.UnknownTarget word)
     → StopsFor (IsUnknownOf g (asked_of defaults said.requested)) s → IsToldUnknown said word
 told_by said defaults g s word is h =
-    let of : IsUnknownOf g (asked_of defaults said.requested) word = subst (StopsFor (IsUnknownOf g (asked_of defaults said.requested))) is h in
+    let of : IsUnknownOf g (asked_of defaults said.requested) (top.UnknownTarget word) = subst (StopsFor (IsUnknownOf g (asked_of defaults said.requested))) is h in
     record { defaults = defaults; graph = g; asked = of.0; unknown = of.1 }
 
 pub unknown_stop : {T : Type 0} (said : Words) (defaults : List Wish) (g : RuleGraph) (r : Result T Stop) (s : Stop) → IsErrAnd r (λ x. x ≡ s)
@@ -238,6 +295,33 @@ told_stop stop.Memory word h = absurd h
 
 pub told_alone : (s : Stop) (faults : List Top) (word : List ℕ) → All (IsStopOr s) faults → Contains faults (top.UnknownTarget word) → s ≡ stop.Fault (own.UnknownTarget word)
 told_alone s faults word all has = told_stop s word (All-contains (IsStopOr s) faults (top.UnknownTarget word) all has)
+
+missing_build : (f : BuildFault) (node target : List ℕ) → top.Missing node target ≡ top_of f → f ≡ fault.Missing node target
+missing_build (fault.Missing path first) node target same = cc
+missing_build (fault.Cycle paths) node target same = absurd (let no = same in cc)
+missing_build (fault.ActionFailed first code) node target same = absurd (let no = same in cc)
+missing_build (fault.TreeFault path) node target same = absurd (let no = same in cc)
+missing_build (fault.StartFault first) node target same = absurd (let no = same in cc)
+missing_build fault.StoreFault node target same = absurd (let no = same in cc)
+missing_build fault.OutFault node target same = absurd (let no = same in cc)
+missing_build (fault.TooLarge path size) node target same = absurd (let no = same in cc)
+missing_build (fault.TooMany what count) node target same = absurd (let no = same in cc)
+
+missing_own : (f : OwnFault) (node target : List ℕ) → top.Missing node target ≡ top_of_own f → ⊥
+missing_own (own.UnknownTarget other) node target same = let no = same in cc
+missing_own (own.Usage place kind) node target same = let no = same in cc
+missing_own (own.Reading file line kind) node target same = let no = same in cc
+missing_own (own.StoreForeign bank) node target same = let no = same in cc
+
+missing_stop : (s : Stop) (node target : List ℕ) → IsStopOr s (top.Missing node target) → s ≡ stop.Build (fault.Missing node target)
+missing_stop (stop.Fault f) node target (inl same) = absurd (missing_own f node target same)
+missing_stop (stop.Fault f) node target (inr out) = absurd (let no = out in cc)
+missing_stop (stop.Build f) node target (inl same) = ap (λ (x : BuildFault). stop.Build x) (missing_build f node target same)
+missing_stop (stop.Build f) node target (inr out) = absurd (let no = out in cc)
+missing_stop stop.Memory node target h = absurd h
+
+pub missing_alone : (s : Stop) (faults : List Top) (node target : List ℕ) → All (IsStopOr s) faults → Contains faults (top.Missing node target) → s ≡ stop.Build (fault.Missing node target)
+missing_alone s faults node target all has = missing_stop s node target (All-contains (IsStopOr s) faults (top.Missing node target) all has)
 
 pub none_told : {P : Type 0} (faults : List Top) (word : List ℕ) → EarlyOnlyIf ⊥ faults → Contains faults (top.UnknownTarget word) → P
 none_told faults word late has = absurd (All-contains (λ f. IsEarly f → ⊥) faults (top.UnknownTarget word) late has tt)

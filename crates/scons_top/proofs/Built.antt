@@ -13,6 +13,7 @@ use Rattle.sign_store.specs.Ends.{image_in}
 use Rattle.sign_store.specs.Tables.{Map}
 use Rattle.build_model.specs.Rules.{Path}
 use Rattle.build_run.specs.Causes.{HasAny}
+use Rattle.build_run.specs.Faulted.{HasFaulted}
 use Rattle.build_run.specs.Forgetting.{Forgets}
 use Rattle.build_run.specs.Outsets.{BuildSucceeds}
 use Rattle.build_run.specs.Reasons.{EndsForReason, HasLast, IsLast}
@@ -23,6 +24,7 @@ use Rattle.build_run.specs.declared.end.BuildEnd.{BuildEnd}
 use Rattle.scons_words.specs.declared.words.Words.{Words}
 use Rattle.scons_top.specs.Builds.{BeginsStore, wanted_by, HasBuilt, BuildsOrStops, RunBuilds}
 use Rattle.scons_top.specs.Scripted.{BuildsNodes, BuildsOf, RunBuildsOf}
+use Rattle.scons_top.specs.Reported.{ReportsFound}
 use Rattle.scons_top.specs.RunLines.{options_of}
 use Rattle.scons_top.specs.Stopping.{RunsSafely}
 use Rattle.scons_top.specs.Stops.{top_of}
@@ -31,6 +33,7 @@ use Rattle.scons_top.specs.declared.report.Report.{Report}
 use Rattle.scons_top.specs.declared.stop.Stop.{Stop}
 use Rattle.scons_top.proofs.Building.{SkipsBy, around_asked, ends_looked, jobs_of, records_kept, run_back, run_on, success_back, success_on}
 use Rattle.scons_top.proofs.Forgotten.{forgets_begun, forgets_looked, forgets_on}
+use Rattle.scons_top.proofs.Reported.{come_back, come_behind, come_done}
 use Rattle.scons_top.proofs.Remembered.{remembers_begun, remembers_behind, remembers_looked}
 
 -- behind a build
@@ -59,6 +62,8 @@ built_looked m said old a b report only watches told idle h =
       forgets = forgets_on m only old a b watches.looks told h.forgets;
       found = h.found;
       reported = h.reported;
+      come = come_behind m w old a b h.kept h.is_ended h.memory h.found around h.come;
+      reports = h.reports;
       goes_on = h.goes_on;
       skips = on.skips;
     }
@@ -90,6 +95,8 @@ built_back m said a b new report only looks here idle told counts safe h =
       forgets = forgets_looked m only a b new looks told here h.forgets;
       found = h.found;
       reported = h.reported;
+      come = come_back m w a b new h.kept h.is_ended h.memory h.found around counts records h.come;
+      reports = h.reports;
       goes_on = h.goes_on;
       skips = back.skips;
     }
@@ -144,9 +151,11 @@ unfoldable pub build_done : {W : Type 0} (m : Meaning W) (said : Words) (g : Rul
     → (m.tells new → m.sure new → are_below (length g.nodes) requested ≡ true → HasCounted m (wanted_by said g requested) store begun new behind answer.is_ended answer.memory)
     → Remembers m (wanted_by said g requested) store begun new
     → Forgets m (wanted_by said g requested) begun new
-    → BuildSucceeds m (wanted_by said g requested) store begun new behind answer → HasBuilt m said old new report
+    → BuildSucceeds m (wanted_by said g requested) store begun new behind answer → ReportsFound said answer.faults report
+    → (m.tells new → m.sure new → are_below (length g.nodes) requested ≡ true → HasFaulted m (wanted_by said g requested) store begun new behind answer)
+    → HasBuilt m said old new report
 build_done m said g requested store old begun new behind answer report begins safe told counts records nodes well memory reported
-    skipped reason tells sure skips jobs remembers forgets succeeds =
+    skipped reason tells sure skips jobs remembers forgets succeeds reports faulted =
     let w = wanted_by said g requested in
     let here = told.told tells in
     let before = image_in (m.seen old) in
@@ -173,6 +182,8 @@ build_done m said g requested store old begun new behind answer report begins sa
       forgets = forgets_begun m old begun new begins told here (forgets tells sure nodes);
       found = answer.faults;
       reported = reported;
+      come = come_done m w store old begun new behind answer around counts same (faulted tells sure nodes);
+      reports = reports;
       goes_on = λ ne keep is. last_told answer.memory answer.faults (memory ne) (reason keep is);
       skips = back.skips;
     }

@@ -1,6 +1,6 @@
 -- What is found of words as they are looked for, one after another.
 use Rattle.std.proofs.Common.{◌≡◌, ◌≢◌, ◌∙◌, ◌≤◌, ◌<◌, ◌+◌, ◌⊎◌, inl, inr, ap, sym, subst, refl, ℕ, Bool, true, false, List, [], ◌∷◌, ◌++◌, Option, Some, None, length, take, get_or, map, arith}
-use Rattle.std.specs.Prelude.{◌||◌, ◌==◌, All, IfErr, IfOk, IfSome, IsErrAnd, IsSome, MatchOption, Ok, Err, Result, is_some, slice_get}
+use Rattle.std.specs.Prelude.{◌||◌, ◌==◌, not, All, IfErr, IfOk, IfSome, IsErrAnd, IsSome, MatchOption, Ok, Err, Result, is_some, slice_get}
 use Rattle.std.specs.List.{filter, list_any}
 use Rattle.std.specs.Option.{option_copied}
 use Rattle.std.proofs.lemmas.Bool.{cond-false, cond-true, eq-eqb, eqb-true, false≢true}
@@ -22,6 +22,7 @@ use Rattle.world_api.specs.declared.world.Kind.TheVariants as kind
 use Rattle.deciders.specs.declared.recorded.Rec.{Rec}
 use Rattle.rule_graph.specs.Aliases.{members_of}
 use Rattle.rule_graph.specs.Graphs.{RuleGraph}
+use Rattle.rule_graph.specs.declared.build_fault.BuildFault.TheVariants as fault
 use Rattle.sign_store.specs.Ends.{image_in}
 use Rattle.sign_store.specs.Stores.{map_of_view, ShowsMapOf}
 use Rattle.sign_store.specs.Tables.{Map}
@@ -34,8 +35,8 @@ use Rattle.build_files.specs.declared.end.ListEnd.TheVariants as list_end
 use Rattle.scons_top.specs.Asked.{IsNoPath, IsUnknownAs, NamesNone, StopsFor}
 use Rattle.scons_top.specs.Below.{AreBelow, AreListed, has_below, KnowsTargets, targets_in}
 use Rattle.scons_top.specs.Faults.{IsLateStop}
-use Rattle.scons_top.specs.Finding.{AreOf, AskedOf, CountsOrAbove, Finds, FindsPath, FindsWord, FindsWords, FoundOrUnknown, HasLeft, IsBare, IsLeftAlone, KnowsRecords, record_in, Tells, TellsRule, UnknownOnlyIf}
-use Rattle.scons_top.specs.Naming.{HasGrown, IsFirstUnknown, IsLeftOver, IsThere, NamesNothing, NamesSome}
+use Rattle.scons_top.specs.Finding.{AreOf, AskedOf, CountsOrAbove, Finds, FindsPath, FindsWord, FindsWords, FoundOrUnknown, HasLeft, IsBare, IsLeftAlone, KnowsRecords, MissesWords, MissingOnlyIf, record_in, Tells, TellsRule, UnknownOnlyIf}
+use Rattle.scons_top.specs.Naming.{HasGrown, IsFirstUnknown, IsLeftOver, IsThere, LacksFor, LacksOne, NamesNothing, NamesSome}
 use Rattle.scons_top.specs.Naming.IsThere.{made, copied, file, dir, above}
 use Rattle.scons_top.specs.Naming.NamesSome.{alias, path}
 use Rattle.scons_top.specs.Stops.{stop_of_list}
@@ -44,7 +45,7 @@ use Rattle.scons_top.specs.declared.stop.OwnFault.TheVariants as own
 use Rattle.scons_top.specs.declared.stop.Stop.{Stop}
 use Rattle.scons_top.specs.declared.stop.Stop.TheVariants as stop
 use Rattle.scons_top.proofs.Building.{around_asked, records_kept}
-use Rattle.scons_top.proofs.Grown.{grown_on, listed_back, listed_on, names_back, nothing_back}
+use Rattle.scons_top.proofs.Grown.{grown_on, lacks_back, listed_back, listed_on, names_back, nothing_back}
 
 -- ---- stops that tell no word to be unknown
 
@@ -119,6 +120,11 @@ none_found len (x ∷ xs) same is = let none = eqb-true len 0 is in absurd (omeg
 
 pub some_found : {X : Type 0} (len : ℕ) (xs : List X) → len ≡ length xs → (len == 0) ≡ false → xs ≢ []
 some_found len xs same is none = false≢true (sym is ∙ eq-eqb len 0 (same ∙ ap length none))
+
+-- what a test of it says
+pub has_found : (g : RuleGraph) (p : List ℕ) (nodes : List NodeId) (len : ℕ) (is : Bool) → AreBelow g p nodes → len ≡ length nodes → is ≡ (len == 0) → not is ≡ has_below g p
+has_found g p nodes len true below same is = sym (below_none g p nodes below (none_found len nodes same (sym is)))
+has_found g p nodes len false below same is = sym (below_some g p nodes below (some_found len nodes same (sym is)))
 
 -- ---- records
 
@@ -210,25 +216,25 @@ module _ {W : Type 0} (m : Meaning W) where
 
   -- ---- words
 
-  pub word_made : {T : Type 0} (g : RuleGraph) (word p : List ℕ) (a : W) (r : Result T Stop) → p ≡ spelling g.top word → is_path word ≡ true
-      → (m.tells a → TellsRule g (m.around a) p true) → IfErr r (StopsFor NamesNone) → FindsWord m g word a r
-  word_made g word p a r at is_one rule stops = λ rest.
+  pub word_made : {T : Type 0} (clean : Bool) (g : RuleGraph) (word p : List ℕ) (a : W) (r : Result T Stop) → p ≡ spelling g.top word → is_path word ≡ true
+      → (m.tells a → TellsRule g (m.around a) p true) → IfErr r (StopsFor NamesNone) → FindsWord m clean g word a r
+  word_made clean g word p a r at is_one rule stops = λ rest.
       let around = m.around a in
       let records = image_in (m.seen a) in
-      silent_made (NamesSome g around records word) (NamesNothing g around records word) r stops
+      silent_made (NamesSome clean g around records word) (NamesNothing g around records word) r stops
       (path is_one (subst (IsThere g around records) at (by_rule around records ((rule rest.0).some refl))))
     where
       by_rule : (around : Around) (records : Map) → (is_made g p ≡ true) ⊎ ((source : List ℕ) × (copied_from g (length g.rules) around p ≡ Some source)) → IsThere g around records p
       by_rule around records (inl is) = made is
       by_rule around records (inr from) = copied from.0 from.1
 
-  pub word_path : {T : Type 0} (g : RuleGraph) (word p : List ℕ) (a b : W) (r : Result T Stop) → members_of g.aliases word ≡ None → p ≡ spelling g.top word → is_path word ≡ true
-      → Looks m a b → (m.tells a → TellsRule g (m.around a) p false) → FindsPath m g p b r → FindsWord m g word b r
-  word_path g word p a b r none at is_one looks rule h = λ rest.
+  pub word_path : {T : Type 0} (clean : Bool) (g : RuleGraph) (word p : List ℕ) (a b : W) (r : Result T Stop) → members_of g.aliases word ≡ None → p ≡ spelling g.top word → is_path word ≡ true
+      → Looks m a b → (m.tells a → TellsRule g (m.around a) p false) → FindsPath m g p b r → FindsWord m clean g word b r
+  word_path clean g word p a b r none at is_one looks rule h = λ rest.
       let around = m.around b in
       let records = image_in (m.seen b) in
       let rules = moved (λ x y. TellsRule g x p false) a b looks rest (rule (looks.told.told rest.0)) in
-      found_weaker (IsThere g around records p) (IsBare g p around records) (NamesSome g around records word) (NamesNothing g around records word) r
+      found_weaker (IsThere g around records p) (IsBare g p around records) (NamesSome clean g around records word) (NamesNothing g around records word) r
       (λ there. path is_one (subst (IsThere g around records) at there)) (λ bare. nothing around records none (λ there. not_there around records rules bare (subst (IsThere g around records) (sym at) there))) (h rest)
     where
       not_there : (around : Around) (records : Map) → TellsRule g around p false → IsBare g p around records → IsThere g around records p → ⊥
@@ -240,7 +246,7 @@ module _ {W : Type 0} (m : Meaning W) where
 
       nothing : (around : Around) (records : Map) → members_of g.aliases word ≡ None → (IsThere g around records (spelling g.top word) → ⊥) → NamesNothing g around records word
       nothing around records none never =
-          subst (λ (o : Option (List NodeId)). MatchOption o (is_path word ≡ true → IsThere g around records (spelling g.top word) → ⊥) (λ members. is_path word ≡ false))
+          subst (λ (o : Option (List NodeId)). MatchOption o (is_path word ≡ true → IsThere g around records (spelling g.top word) → ⊥) (λ members. (is_path word ≡ false) × LacksOne g around records members))
           (sym none) (λ is. never)
 
 -- a word as it is spelled
@@ -250,20 +256,20 @@ spelled_word g word top read p is at spells = spells ∙ ap (λ (t : List ℕ). 
 -- a word that is no alias and no path
 pub nothing_named : (g : RuleGraph) (around : Around) (records : Map) (word : List ℕ) → members_of g.aliases word ≡ None → is_path word ≡ false → NamesNothing g around records word
 nothing_named g around records word none no_path =
-    subst (λ (o : Option (List NodeId)). MatchOption o (is_path word ≡ true → IsThere g around records (spelling g.top word) → ⊥) (λ members. is_path word ≡ false))
+    subst (λ (o : Option (List NodeId)). MatchOption o (is_path word ≡ true → IsThere g around records (spelling g.top word) → ⊥) (λ members. (is_path word ≡ false) × LacksOne g around records members))
     (sym none) (λ is. absurd (false≢true (sym no_path ∙ is)))
 
 pub alias_named : (g : RuleGraph) (word name : List ℕ) (members : List NodeId) → name ≡ word → members_of g.aliases name ≡ Some members → members_of g.aliases word ≡ Some members
 alias_named g word name members same is = subst (λ (w : List ℕ). members_of g.aliases w ≡ Some members) same is
 
--- an alias whose name is no path
+-- an alias whose name is no path, and a member of which isn't there
 pub nameless : (g : RuleGraph) (around : Around) (records : Map) (word : List ℕ) (members : List NodeId) → members_of g.aliases word ≡ Some members → is_path word ≡ false
-    → NamesNothing g around records word
-nameless g around records word members some no_path =
-    subst (λ (o : Option (List NodeId)). MatchOption o (is_path word ≡ true → IsThere g around records (spelling g.top word) → ⊥) (λ members. is_path word ≡ false)) (sym some) no_path
+    → LacksOne g around records members → NamesNothing g around records word
+nameless g around records word members some no_path lacks =
+    subst (λ (o : Option (List NodeId)). MatchOption o (is_path word ≡ true → IsThere g around records (spelling g.top word) → ⊥) (λ members. (is_path word ≡ false) × LacksOne g around records members)) (sym some) (no_path, lacks)
 
-pub no_path_only : (P : Type 0) (word : List ℕ) (s : Stop) → StopsFor (IsNoPath word) s → (is_path word ≡ false → P) → UnknownOnlyIf P s
-no_path_only P word s h p = λ other is. p (subst (StopsFor (IsNoPath word)) is h).1
+pub no_path_only : (P Q : Type 0) (word : List ℕ) (s : Stop) → StopsFor (IsNoPath word) s → UnknownOnlyIf Q s → (is_path word ≡ false → Q → P) → UnknownOnlyIf P s
+no_path_only P Q word s h only p = λ other is. p (subst (StopsFor (IsNoPath word)) is h).1 (only other is)
 
 -- ---- words in turn
 
@@ -287,42 +293,65 @@ module _ {W : Type 0} (m : Meaning W) (g k : RuleGraph) (grown : HasGrown g k) (
     records = h.records;
   }
 
-  module _ (a b : W) (asked : List (List ℕ)) (i : ℕ) (word : List ℕ) (looks : Looks m a b) (lt : i < length asked) (at : word ≡ get_or asked i word)
-      (names : AtRest m a → All (NamesSome g (m.around a) (image_in (m.seen a))) (take i asked)) where
-    named_before : AtRest m b → All (NamesSome g (m.around b) (image_in (m.seen b))) (take i asked)
-    named_before rest = moved m (λ around records. All (NamesSome g around records) (take i asked)) a b looks rest (names (rest_before m a b looks rest))
+  module _ (clean : Bool) (a b : W) (asked : List (List ℕ)) (i : ℕ) (word : List ℕ) (looks : Looks m a b) (lt : i < length asked) (at : word ≡ get_or asked i word)
+      (names : AtRest m a → All (NamesSome clean g (m.around a) (image_in (m.seen a))) (take i asked)) where
+    named_before : AtRest m b → All (NamesSome clean g (m.around b) (image_in (m.seen b))) (take i asked)
+    named_before rest = moved m (λ around records. All (NamesSome clean g around records) (take i asked)) a b looks rest (names (rest_before m a b looks rest))
 
-    pub words_more : (AtRest m b → NamesSome k (m.around b) (image_in (m.seen b)) word) → AtRest m b → All (NamesSome g (m.around b) (image_in (m.seen b))) (take (i + 1) asked)
+    pub words_more : (AtRest m b → NamesSome clean k (m.around b) (image_in (m.seen b)) word) → AtRest m b → All (NamesSome clean g (m.around b) (image_in (m.seen b))) (take (i + 1) asked)
     words_more one rest =
         let around = m.around b in
         let records = image_in (m.seen b) in
-        All-more (NamesSome g around records) asked i word lt (named_before rest) (subst (NamesSome g around records) at (names_back g k grown reading apart around records word (one rest)))
+        All-more (NamesSome clean g around records) asked i word lt (named_before rest) (subst (NamesSome clean g around records) at (names_back g k grown reading apart clean around records word (one rest)))
 
     pub words_stop : {T : Type 0} (r : Result T Stop) (s : Stop) → IsErrAnd r (λ x. x ≡ s) → (AtRest m b → UnknownOnlyIf (NamesNothing k (m.around b) (image_in (m.seen b)) word) s)
-        → ((other : List ℕ) → s ≡ stop.Fault (own.UnknownTarget other) → other ≡ word) → FindsWords m g asked b r
+        → ((other : List ℕ) → s ≡ stop.Fault (own.UnknownTarget other) → other ≡ word) → FindsWords m clean g asked b r
     words_stop (Ok value) s is nothing same = absurd is
     words_stop (Err x) s is nothing same = λ rest.
         let around = m.around b in
         let records = image_in (m.seen b) in
-        subst (λ (y : Stop). (other : List ℕ) → y ≡ stop.Fault (own.UnknownTarget other) → IsFirstUnknown g around records asked other) (sym is) (λ other told.
-        subst (IsFirstUnknown g around records asked) (sym (same other told)) (record {
+        subst (λ (y : Stop). (other : List ℕ) → y ≡ stop.Fault (own.UnknownTarget other) → IsFirstUnknown clean g around records asked other) (sym is) (λ other told.
+        subst (IsFirstUnknown clean g around records asked) (sym (same other told)) (record {
           place = i;
           at = slice_get_read asked (length asked) i word refl lt at;
           before = named_before rest;
           nothing = nothing_back g k grown reading apart around records word (nothing rest other told);
         }))
 
-pub words_all : {W : Type 0} (m : Meaning W) (g : RuleGraph) (asked : List (List ℕ)) (i : ℕ) (a : W) → length asked ≤ i
-    → (AtRest m a → All (NamesSome g (m.around a) (image_in (m.seen a))) (take i asked)) → AtRest m a → All (NamesSome g (m.around a) (image_in (m.seen a))) asked
-words_all m g asked i a le names rest = subst (λ (words : List (List ℕ)). All (NamesSome g (m.around a) (image_in (m.seen a))) words) (take_all i asked le) (names rest)
+    pub words_miss : {T : Type 0} (r : Result T Stop) (s : Stop) → IsErrAnd r (λ x. x ≡ s)
+        → (AtRest m b → MissingOnlyIf (λ node. LacksFor k (m.around b) (image_in (m.seen b)) word node) s)
+        → ((node target : List ℕ) → s ≡ stop.Build (fault.Missing node target) → target ≡ word) → MissesWords m clean g asked b r
+    words_miss (Ok value) s is lacks same = absurd is
+    words_miss (Err x) s is lacks same = λ rest node target told.
+        let around = m.around b in
+        let records = image_in (m.seen b) in
+        let of = same node target (sym is ∙ told) in
+        record {
+          place = i;
+          at = subst (λ (w : List ℕ). slice_get asked i ≡ Some w) (sym of) (slice_get_read asked (length asked) i word refl lt at);
+          before = named_before rest;
+          lacks = subst (λ (w : List ℕ). LacksFor g around records w node) (sym of) (lacks_back g k grown reading apart around records word node (lacks rest node target (sym is ∙ told)));
+        }
 
-pub words_memory : {W T : Type 0} (m : Meaning W) (g : RuleGraph) (asked : List (List ℕ)) (a : W) (r : Result T Stop) → IsErrAnd r (λ s. s ≡ stop.Memory) → FindsWords m g asked a r
-words_memory m g asked a (Ok value) is = absurd is
-words_memory m g asked a (Err s) is = λ rest word told. absurd (let never = sym is ∙ told in cc)
+pub words_unmissed : {W T : Type 0} (m : Meaning W) (clean : Bool) (g : RuleGraph) (asked : List (List ℕ)) (a : W) (r : Result T Stop) → IsErrAnd r (λ s. s ≡ stop.Memory) → MissesWords m clean g asked a r
+words_unmissed m clean g asked a (Ok value) is = absurd is
+words_unmissed m clean g asked a (Err s) is = λ rest node target told. absurd (let never = sym is ∙ told in cc)
+
+pub words_all : {W : Type 0} (m : Meaning W) (clean : Bool) (g : RuleGraph) (asked : List (List ℕ)) (i : ℕ) (a : W) → length asked ≤ i
+    → (AtRest m a → All (NamesSome clean g (m.around a) (image_in (m.seen a))) (take i asked)) → AtRest m a → All (NamesSome clean g (m.around a) (image_in (m.seen a))) asked
+words_all m clean g asked i a le names rest = subst (λ (words : List (List ℕ)). All (NamesSome clean g (m.around a) (image_in (m.seen a))) words) (take_all i asked le) (names rest)
+
+pub words_memory : {W T : Type 0} (m : Meaning W) (clean : Bool) (g : RuleGraph) (asked : List (List ℕ)) (a : W) (r : Result T Stop) → IsErrAnd r (λ s. s ≡ stop.Memory) → FindsWords m clean g asked a r
+words_memory m clean g asked a (Ok value) is = absurd is
+words_memory m clean g asked a (Err s) is = λ rest word told. absurd (let never = sym is ∙ told in cc)
 
 -- the word that is told is the one that was looked for
 pub told_word : (k : RuleGraph) (word : List ℕ) (s : Stop) → StopsFor (IsUnknownAs k word) s → (other : List ℕ) → s ≡ stop.Fault (own.UnknownTarget other) → other ≡ word
 told_word k word s h other is = (subst (StopsFor (IsUnknownAs k word)) is h).0
+
+-- and so is that of a member
+pub told_missing : (k : RuleGraph) (word : List ℕ) (s : Stop) → StopsFor (IsUnknownAs k word) s → (node target : List ℕ) → s ≡ stop.Build (fault.Missing node target) → target ≡ word
+told_missing k word s h node target is = subst (StopsFor (IsUnknownAs k word)) is h
 
 -- nothing was looked up yet
 pub of_nothing : {W : Type 0} (m : Meaning W) (g : RuleGraph) (a : W) (lookups : Lookups) → KnowsTargets g lookups.below → lookups.view ≡ None → AreOf m g a lookups

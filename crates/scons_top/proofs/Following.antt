@@ -141,7 +141,7 @@ module _ {W O : Type 0} (m : Meaning W) (p : SinkMeaning O) (said : Words) where
 
       -- a word that names nothing
       pub follows_asked : (r : Result Report Stop) (s : Stop) → IsErrAnd r (λ x. x ≡ s)
-          → (AtRest m c → (word : List ℕ) → s ≡ stop.Fault (own.UnknownTarget word) → IsFirstUnknown g (m.around c) (image_in (m.seen c)) (asked_by g said) word)
+          → (AtRest m c → (word : List ℕ) → s ≡ stop.Fault (own.UnknownTarget word) → IsFirstUnknown said.clean g (m.around c) (image_in (m.seen c)) (asked_by g said) word)
           → RunFollows m p said step.Requests a out c between r
       follows_asked r s is names = λ told tells.
           let read = reads told (on.told.told tells) (idle (all.told.told tells)) in
@@ -150,11 +150,11 @@ module _ {W O : Type 0} (m : Meaning W) (p : SinkMeaning O) (said : Words) where
           first : (r : Result Report Stop) → IsErrAnd r (λ x. x ≡ s) → m.tells c → TellsFirst m said g a r
           first (Ok report) is tells = absurd is
           first (Err x) is tells = λ word word_is.
-              back (λ around records. IsFirstUnknown g around records (asked_by g said) word) tells (names (at_rest tells) word (sym is ∙ word_is))
+              back (λ around records. IsFirstUnknown said.clean g around records (asked_by g said) word) tells (names (at_rest tells) word (sym is ∙ word_is))
 
       -- what is requested
       module _ (k : RuleGraph) (requests : List Request) (grows : GrowsByPaths g k) (words : words_asked requests ≡ asked_by g said) (nodes : AskForNodes k requests)
-          (names : AtRest m c → All (NamesSome g (m.around c) (image_in (m.seen c))) (asked_by g said)) (new : W) (after : O) (r : Result Report Stop) where
+          (names : AtRest m c → All (NamesSome said.clean g (m.around c) (image_in (m.seen c))) (asked_by g said)) (new : W) (after : O) (r : Result Report Stop) where
         served_looked : (at : Step) → ServesAt said at → (m.tells new → m.tells c) → m.tells new → (rest : List ℕ) → IsServedText m p said at k requests c new r rest → IsServedText m p said at k requests a new r rest
         served_looked step.Building serves back_told tells rest h =
             let here = back_told tells in building_looked m p said k requests a c new r rest (around_stays m a c all (at_rest here)) (records_stay m a c all here) h
@@ -190,7 +190,7 @@ module _ {W O : Type 0} (m : Meaning W) (p : SinkMeaning O) (said : Words) where
             let read = reads (prints.told told) (on.told.told here) (idle (all.told.told here)) in
             let opening = opening_text said read.0 in
             by_step at serves read.0 read.1 (record {
-              named = back (λ around records. All (NamesSome g around records) (asked_by g said)) here (names (at_rest here));
+              named = back (λ around records. All (NamesSome said.clean g around records) (asked_by g said)) here (names (at_rest here));
               grown = k;
               grows = grows;
               requests = requests;

@@ -1,12 +1,12 @@
 -- As paths get numbers words name the same.
-use Rattle.std.proofs.Common.{◌≡◌, ◌∙◌, ◌≤◌, ◌<◌, ◌⊎◌, inl, inr, ap, sym, subst, refl, ℕ, suc, zero, Bool, true, false, List, [], ◌∷◌, ◌++◌, Option, Some, None, length, take, append-nil, append_assoc, map, arith}
+use Rattle.std.proofs.Common.{◌≡◌, ◌∙◌, ◌≤◌, ◌<◌, ◌⊎◌, inl, inr, ap, sym, subst, refl, cond, ℕ, suc, zero, Bool, true, false, List, [], ◌∷◌, ◌++◌, Option, Some, None, length, take, append-nil, append_assoc, map, arith}
 use Rattle.std.specs.Prelude.{◌&&◌, ◌||◌, not, is_some, nat_eq, nat_lt, slice_get, unwrap_or, All, MatchOption, if◌then◌else◌}
 use Rattle.std.specs.List.{flat_map, list_any, list_all}
 use Rattle.std.specs.List.Sorted.{IsPermutation}
 use Rattle.std.specs.Str.{bytes_eq}
 use Rattle.std.proofs.lemmas.Bool.{eqb-true, ltb-true}
-use Rattle.std.proofs.lemmas.List.Elements.{All-weaker}
-use Rattle.std.proofs.lemmas.Option.{slice_get_cases, slice_get_within}
+use Rattle.std.proofs.lemmas.List.Elements.{All-cons, All-contains, All-get_or, All-head, All-nil, All-tail, All-take, All-weaker}
+use Rattle.std.proofs.lemmas.Option.{get_or_from_slice_get, slice_get_cases, slice_get_within}
 use Rattle.std.proofs.lemmas.Slice.Eq.{bytes_eq-Decides}
 use Rattle.scons_base.specs.PathFaults.{is_path}
 use Rattle.scons_base.specs.Parts.{is_below}
@@ -14,7 +14,7 @@ use Rattle.scons_base.specs.Resolve.{spelling}
 use Rattle.scons_base.specs.declared.ids.NodeId.{NodeId}
 use Rattle.node_tree.specs.Nodes.{number_of, AreApart}
 use Rattle.world_api.specs.Around.{Around}
-use Rattle.rule_graph.specs.Aliases.{members_of}
+use Rattle.rule_graph.specs.Aliases.{members_of, Alias}
 use Rattle.rule_graph.specs.Graphs.{RuleGraph, path_of}
 use Rattle.rule_graph.specs.Rules.{are_below, is_target_of, rule_of}
 use Rattle.rule_graph.specs.declared.rule.Rule.{Rule}
@@ -22,12 +22,14 @@ use Rattle.deciders.specs.declared.recorded.Rec.{Rec}
 use Rattle.sign_store.specs.Tables.{Map}
 use Rattle.build_means.specs.Rules.{IsReading}
 use Rattle.build_means.proofs.Growing.{get_front}
-use Rattle.build_means.proofs.Lists.{all_there, any_there, first_place, none_some, some_same}
+use Rattle.build_means.proofs.Lists.{all_there, and_both, any_there, first_place, none_some, some_same}
 use Rattle.build_files.specs.Leftovers.{copied_from, declared_for, has_rule, is_before, is_copied, is_declared, is_made, is_source, source_among, stands, IsLeftover, IsOfCopy}
 use Rattle.scons_top.specs.Below.{has_below, targets_in, with_paths, AreListed}
-use Rattle.scons_top.specs.Naming.{HasGrown, IsFirstUnknown, IsLeftOver, IsThere, NamesNothing, NamesSome}
+use Rattle.scons_top.specs.Naming.{AreThere, HasGrown, IsFirstUnknown, IsLeftOver, IsMemberThere, IsThere, LacksFor, LacksOne, NamesNothing, NamesSome}
 use Rattle.scons_top.specs.Naming.IsThere.{made, copied, file, dir, above}
 use Rattle.scons_top.specs.Naming.NamesSome.{alias, path}
+use Rattle.scons_top.specs.Requested.{AreNodes}
+use Rattle.scons_top.proofs.Requesting.{all_below}
 
 -- the path of a number
 numbered : (nodes : List (List ℕ)) (p : List ℕ) (n : ℕ) → number_of nodes p ≡ Some n → slice_get nodes n ≡ Some p
@@ -40,7 +42,7 @@ none_cases None none some = none refl
 none_cases (Some x) none some = some x refl
 
 -- what stands at a place, or the place is past the end
-at_or_past : {X : Type 0} (xs : List X) (i : ℕ) → ((x : X) × (slice_get xs i ≡ Some x)) ⊎ (length xs ≤ i)
+pub at_or_past : {X : Type 0} (xs : List X) (i : ℕ) → ((x : X) × (slice_get xs i ≡ Some x)) ⊎ (length xs ≤ i)
 at_or_past [] i = inr (omega arith)
 at_or_past (x ∷ xs) zero = inl (x, refl)
 at_or_past {X = X} (x ∷ xs) (suc i) = further (at_or_past xs i)
@@ -48,6 +50,20 @@ at_or_past {X = X} (x ∷ xs) (suc i) = further (at_or_past xs i)
     further : ((y : X) × (slice_get xs i ≡ Some y)) ⊎ (length xs ≤ i) → ((y : X) × (slice_get (x ∷ xs) (suc i) ≡ Some y)) ⊎ (length (x ∷ xs) ≤ suc i)
     further (inl there) = inl there
     further (inr le) = inr (omega (arith, le))
+
+-- an alias's members are nodes
+members_by : (n : ℕ) (a : Alias) (aliases : List Alias) (word : List ℕ) (members : List NodeId) → list_all (λ x. are_below n x.1) (a ∷ aliases) ≡ true → (b : Bool)
+    → cond b (Some a.1) (members_of aliases word) ≡ Some members
+    → (list_all (λ x. are_below n x.1) aliases ≡ true → members_of aliases word ≡ Some members → are_below n members ≡ true) → are_below n members ≡ true
+members_by n a aliases word members all true is rest =
+    let same : a.1 ≡ members = cc in
+    subst (λ (ids : List NodeId). are_below n ids ≡ true) same (and_both (are_below n a.1) (list_all (λ (x : Alias). are_below n x.1) aliases) all).0
+members_by n a aliases word members all false is rest = rest (and_both (are_below n a.1) (list_all (λ (x : Alias). are_below n x.1) aliases) all).1 is
+
+members_below : (n : ℕ) (aliases : List Alias) (word : List ℕ) (members : List NodeId) → list_all (λ a. are_below n a.1) aliases ≡ true
+    → members_of aliases word ≡ Some members → are_below n members ≡ true
+members_below n [] word members all is = absurd (cc)
+members_below n (a ∷ aliases) word members all is = members_by n a aliases word members all (bytes_eq word a.0) is (members_below n aliases word members)
 
 module _ (g : RuleGraph) (nodes more : List (List ℕ)) (is : nodes ≡ g.nodes ++ more) (reading : IsReading g) (apart : AreApart nodes) where
   abbrev grown : RuleGraph
@@ -174,26 +190,78 @@ module _ (g : RuleGraph) (nodes more : List (List ℕ)) (is : nodes ≡ g.nodes 
   there_on around map p (dir kind) = dir kind
   there_on around map p (above below) = above (below_same p ∙ below)
 
-  names_before : (around : Around) (map : Map) (word : List ℕ) → NamesSome grown around map word → NamesSome g around map word
-  names_before around map word (alias members at) = alias members at
-  names_before around map word (path is_one there) = path is_one (there_back around map (spelling g.top word) there)
+  members_back : (around : Around) (map : Map) (members : List NodeId) → AreNodes g members → AreThere grown around map members → AreThere g around map members
+  members_back around map [] below all = All-nil (IsMemberThere g around map)
+  members_back around map (member ∷ members) below all =
+      let is_node = λ (id : NodeId). id.0 < length g.nodes in
+      let first = there_back around map (path_of nodes member) (All-head (IsMemberThere grown around map) member members all) in
+      All-cons (IsMemberThere g around map) member members
+      (subst (λ (p : List ℕ). IsThere g around map p) (path_same member (All-head is_node member members below)) first)
+      (members_back around map members (All-tail is_node member members below) (All-tail (IsMemberThere grown around map) member members all))
+
+  -- the members of an alias are nodes
+  members_nodes : (word : List ℕ) (members : List NodeId) → members_of g.aliases word ≡ Some members → AreNodes g members
+  members_nodes word members at = all_below g members (members_below (length g.nodes) g.aliases word members reading.named.each_alias at)
+
+  names_before : (clean : Bool) (around : Around) (map : Map) (word : List ℕ) → NamesSome clean grown around map word → NamesSome clean g around map word
+  names_before clean around map word (alias members at there) =
+      alias members at (λ keeps. members_back around map members (members_nodes word members at) (there keeps))
+  names_before clean around map word (path is_one there) = path is_one (there_back around map (spelling g.top word) there)
+
+  lacks_before : (around : Around) (map : Map) (word : List ℕ) (members : List NodeId) → members_of g.aliases word ≡ Some members → LacksOne grown around map members
+      → LacksOne g around map members
+  lacks_before around map word members at one =
+      let below : one.member.0 < length g.nodes = All-contains (λ (id : NodeId). id.0 < length g.nodes) members one.member (members_nodes word members at) one.is in
+      record {
+        member = one.member;
+        is = one.is;
+        lacks = λ there. one.lacks
+            (subst (λ (p : List ℕ). IsThere grown around map p) (sym (path_same one.member below)) (there_on around map (path_of g.nodes one.member) there));
+      }
+
+  lacks_for_before : (around : Around) (map : Map) (word node : List ℕ) → LacksFor grown around map word node → LacksFor g around map word node
+  lacks_for_before around map word node h =
+      let is_node = λ (id : NodeId). id.0 < length g.nodes in
+      let first = h.first in
+      let all = members_nodes word h.members h.alias in
+      let below : first.member.0 < length g.nodes =
+      subst is_node (get_or_from_slice_get h.members first.place first.member first.member first.at)
+      (All-get_or is_node h.members first.place first.member (slice_get_within h.members first.place first.member first.at) all) in
+      record {
+        members = h.members;
+        alias = h.alias;
+        first = record {
+          member = first.member;
+          place = first.place;
+          at = first.at;
+          before = members_back around map (take first.place h.members) (All-take is_node first.place h.members all) first.before;
+          lacks = λ there. first.lacks
+              (subst (λ (p : List ℕ). IsThere grown around map p) (sym (path_same first.member below)) (there_on around map (path_of g.nodes first.member) there));
+          path = first.path ∙ path_same first.member below;
+        };
+      }
 
   nothing_before : (around : Around) (map : Map) (word : List ℕ) → NamesNothing grown around map word → NamesNothing g around map word
-  nothing_before around map word nothing = by_alias (members_of g.aliases word) nothing
+  nothing_before around map word nothing = by_alias (members_of g.aliases word) refl nothing
     where
-      by_alias : (o : Option (List NodeId)) → MatchOption o (is_path word ≡ true → IsThere grown around map (spelling g.top word) → ⊥) (λ members. is_path word ≡ false)
-          → MatchOption o (is_path word ≡ true → IsThere g around map (spelling g.top word) → ⊥) (λ members. is_path word ≡ false)
-      by_alias None none = λ is_one there. none is_one (there_on around map (spelling g.top word) there)
-      by_alias (Some members) h = h
+      by_alias : (o : Option (List NodeId)) → members_of g.aliases word ≡ o
+          → MatchOption o (is_path word ≡ true → IsThere grown around map (spelling g.top word) → ⊥) (λ members. (is_path word ≡ false) × LacksOne grown around map members)
+          → MatchOption o (is_path word ≡ true → IsThere g around map (spelling g.top word) → ⊥) (λ members. (is_path word ≡ false) × LacksOne g around map members)
+      by_alias None at none = λ is_one there. none is_one (there_on around map (spelling g.top word) there)
+      by_alias (Some members) at h = (h.0, lacks_before around map word members at h.1)
 
 module _ (g h : RuleGraph) (grown_to : HasGrown g h) (before : IsReading g) (apart : AreApart h.nodes) where
-  pub names_back : (around : Around) (map : Map) (word : List ℕ) → NamesSome h around map word → NamesSome g around map word
-  names_back around map word names =
-      names_before g h.nodes grown_to.more grown_to.nodes before apart around map word (subst (λ (k : RuleGraph). NamesSome k around map word) grown_to.same names)
+  pub names_back : (clean : Bool) (around : Around) (map : Map) (word : List ℕ) → NamesSome clean h around map word → NamesSome clean g around map word
+  names_back clean around map word names =
+      names_before g h.nodes grown_to.more grown_to.nodes before apart clean around map word (subst (λ (k : RuleGraph). NamesSome clean k around map word) grown_to.same names)
 
   pub nothing_back : (around : Around) (map : Map) (word : List ℕ) → NamesNothing h around map word → NamesNothing g around map word
   nothing_back around map word nothing =
       nothing_before g h.nodes grown_to.more grown_to.nodes before apart around map word (subst (λ (k : RuleGraph). NamesNothing k around map word) grown_to.same nothing)
+
+  pub lacks_back : (around : Around) (map : Map) (word node : List ℕ) → LacksFor h around map word node → LacksFor g around map word node
+  lacks_back around map word node lacks =
+      lacks_for_before g h.nodes grown_to.more grown_to.nodes before apart around map word node (subst (λ (k : RuleGraph). LacksFor k around map word node) grown_to.same lacks)
 
   targets_same : targets_in h h.rules ≡ targets_in g g.rules
   targets_same =

@@ -3,6 +3,7 @@ mod Early
 mod Counting
 mod Causing
 mod Reporting
+mod Reported
 mod Requesting
 mod Building
 mod Remembered
@@ -24,6 +25,7 @@ mod Wording
 mod Refusing
 mod Completing
 mod Marking
+mod Membership
 mod Printing
 mod Removing
 mod Serving

@@ -240,28 +240,10 @@ one_found at f none first empty is h =
     subst (λ fs. AllFoundAt at fs) (sym (is ∙ ap (λ (fs : List BuildFault). fs ++ f ∷ []) empty)) (All-cons P f [] h (All-nil P))
 
 pub many_at : (at : Step) (faults : List Top) → GoesOn at → EndsAtOne at faults
-many_at step.Words faults on = absurd on
-many_at step.Load faults on = absurd on
-many_at step.Top faults on = absurd on
-many_at step.Reading faults on = absurd on
-many_at step.Help faults on = absurd on
-many_at step.Requests faults on = absurd on
-many_at step.Cleaning faults on = absurd on
-many_at step.Store faults on = absurd on
-many_at step.Listing faults on = tt
-many_at step.Building faults on = tt
+many_at at faults on = λ ends. absurd (ends on)
 
 pub one_at : (at : Step) (faults : List Top) → AreOne faults → EndsAtOne at faults
-one_at step.Words faults one = one
-one_at step.Load faults one = one
-one_at step.Top faults one = one
-one_at step.Reading faults one = one
-one_at step.Help faults one = one
-one_at step.Requests faults one = one
-one_at step.Cleaning faults one = one
-one_at step.Store faults one = one
-one_at step.Listing faults one = tt
-one_at step.Building faults one = tt
+one_at at faults one = λ ends. one
 
 pub none_at : (at : Step) (faults : List Top) → faults ≡ [] → EndsAtOne at faults
 none_at at faults none = one_at at faults (subst AreOne (sym none) no_fault)

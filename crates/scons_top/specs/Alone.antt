@@ -19,6 +19,4 @@ GoesOn other = ⊥
 
 -- every other step ends with its first fault
 abbrev pub EndsAtOne : Step → List Top → Type 0
-EndsAtOne step.Listing faults = Unit {0}
-EndsAtOne step.Building faults = Unit {0}
-EndsAtOne other faults = AreOne faults
+EndsAtOne at faults = (GoesOn at → ⊥) → AreOne faults

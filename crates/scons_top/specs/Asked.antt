@@ -6,6 +6,7 @@ use Rattle.scons_words.specs.declared.words.Words.{Words}
 use Rattle.rule_graph.specs.Aliases.{members_of}
 use Rattle.rule_graph.specs.Graphs.{RuleGraph}
 use Rattle.build_files.specs.Leftovers.{is_made}
+use Rattle.rule_graph.specs.declared.build_fault.BuildFault.TheVariants as fault
 use Rattle.rule_graph.specs.declared.wish.Wish.{Wish}
 use Rattle.rule_graph.specs.declared.wish.Wish.TheVariants as wish
 use Rattle.scons_top.specs.declared.report.Top.{Top}
@@ -48,38 +49,53 @@ abbrev pub IsUnknown : RuleGraph → List ℕ → Type 0
 IsUnknown g word =
     MatchOption (members_of g.aliases word) (is_path word ≡ true → is_made g (spelling g.top word) ≡ false) (λ members. is_path word ≡ false)
 
--- a stop before all words stand for nodes, where a word that isn't known is one of which this holds
-abbrev pub StopsFor : (List ℕ → Type 0) → Stop → Type 0
-StopsFor P (stop.Fault (own.UnknownTarget word)) = P word
+-- a stop before all words stand for nodes, where this holds of the fault of a word that isn't known and of a member that isn't there
+abbrev pub StopsFor : (Top → Type 0) → Stop → Type 0
+StopsFor P (stop.Fault (own.UnknownTarget word)) = P (top.UnknownTarget word)
+StopsFor P (stop.Build (fault.Missing node target)) = P (top.Missing node target)
 StopsFor P other = StopsAt step.Requests other
 
 -- a word read as a path, where it is one
 abbrev pub IsReadAs : List ℕ → Option (List ℕ) → Type 0
 IsReadAs word path = MatchOption path (is_path word ≡ false) (λ p. (p ≡ word) × (is_path word ≡ true))
 
--- there is none
-abbrev pub NamesNone : List ℕ → Type 0
-NamesNone word = ⊥
+-- there is no such fault
+abbrev pub NamesNone : Top → Type 0
+NamesNone f = ⊥
 
--- it is this one
-abbrev pub IsWord : List ℕ → List ℕ → Type 0
-IsWord word other = other ≡ word
+-- it is of this word, and of no member
+abbrev pub IsWord : List ℕ → Top → Type 0
+IsWord word (top.UnknownTarget other) = other ≡ word
+IsWord word f = ⊥
 
--- it is this one, of which the graph as it was says so
-abbrev pub IsWordIn : RuleGraph → RuleGraph → List ℕ → List ℕ → Type 0
-IsWordIn old new word other = (other ≡ word) × (new ≡ old)
+-- it is of this word, of which the graph as it was says so
+abbrev pub IsWordIn : RuleGraph → RuleGraph → List ℕ → Top → Type 0
+IsWordIn old new word (top.UnknownTarget other) = (other ≡ word) × (new ≡ old)
+IsWordIn old new word f = ⊥
 
--- it is this one, which is no path
-abbrev pub IsNoPath : List ℕ → List ℕ → Type 0
-IsNoPath word other = (other ≡ word) × (is_path word ≡ false)
+-- it is of this word, which is no path, or of the member at this path
+abbrev pub IsMissing : List ℕ → List ℕ → Top → Type 0
+IsMissing word path (top.UnknownTarget other) = (other ≡ word) × (is_path word ≡ false)
+IsMissing word path (top.Missing node target) = (node ≡ path) × (target ≡ word)
+IsMissing word path f = ⊥
 
--- it is this one, and isn't known
-abbrev pub IsUnknownAs : RuleGraph → List ℕ → List ℕ → Type 0
-IsUnknownAs g word other = (other ≡ word) × IsUnknown g word
+-- it is of this word, which is no path, or of a member of it
+abbrev pub IsNoPath : List ℕ → Top → Type 0
+IsNoPath word (top.UnknownTarget other) = (other ≡ word) × (is_path word ≡ false)
+IsNoPath word (top.Missing node target) = target ≡ word
+IsNoPath word f = ⊥
 
--- it is one of these, and isn't known
-abbrev pub IsUnknownOf : RuleGraph → List (List ℕ) → List ℕ → Type 0
-IsUnknownOf g words other = Contains words other × IsUnknown g other
+-- it is of this word, which isn't known, or of a member of it
+abbrev pub IsUnknownAs : RuleGraph → List ℕ → Top → Type 0
+IsUnknownAs g word (top.UnknownTarget other) = (other ≡ word) × IsUnknown g word
+IsUnknownAs g word (top.Missing node target) = target ≡ word
+IsUnknownAs g word f = ⊥
+
+-- it is of one of these, which isn't known, or of a member of it
+abbrev pub IsUnknownOf : RuleGraph → List (List ℕ) → Top → Type 0
+IsUnknownOf g words (top.UnknownTarget other) = Contains words other × IsUnknown g other
+IsUnknownOf g words (top.Missing node target) = Contains words target
+IsUnknownOf g words f = ⊥
 
 -- A word that a run with these words told to be unknown: it was asked for, and it isn't known by what the scripts declared.
 pub record IsToldUnknown (said : Words) (word : List ℕ) : Type 0 where

@@ -18,6 +18,7 @@ use Rattle.build_run.specs.Reasons.{IsLast}
 use Rattle.build_run.specs.Skips.{AreSkips}
 use Rattle.build_run.specs.Unrecorded.{CountsJobs}
 use Rattle.scons_top.specs.Remembered.{HasRememberedSince, LeavesRecords}
+use Rattle.scons_top.specs.Reported.{HasFoundFaults, ReportsFound}
 use Rattle.scons_top.specs.Stops.{top_of}
 use Rattle.scons_top.specs.declared.report.Report.{Report}
 use Rattle.scons_top.specs.declared.step.Step.{Step}
@@ -76,6 +77,9 @@ pub record HasBuilt {W : Type 0} (m : Meaning W) (said : Words) (old new : W) (r
   -- the faults of the build, each of which the report has unless memory was wanting
   pub found : List BuildFault
   pub reported : report.status ≢ 3 → All (λ f. Contains report.faults (top_of f)) found
+  -- they come of what its jobs did, and the report has them in their order, and no other of a build
+  pub come : HasFoundFaults m (wanted_by said graph requested) old new kept is_ended memory found
+  pub reports : ReportsFound said found report
   -- with keep-going others go on unless such a fault came
   pub goes_on : report.status ≢ 3 → said.keep ≡ true → is_ended ≡ true → HasAny IsLast found
   pub skips : is_ended ≡ false →

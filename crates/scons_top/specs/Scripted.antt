@@ -127,7 +127,7 @@ IsBehind opening IsRest text = (rest : List ℕ) × IsRest rest × (text ≡ ope
 -- their paths alone; these nodes of it were built, cleaned or listed, and what is printed behind the opening is of them.
 pub record Serves {W O : Type 0} (m : Meaning W) (p : SinkMeaning O) (said : Words) (at : Step) (graph : RuleGraph) (opening : List ℕ)
     (old : W) (out : O) (new : W) (new_out : O) (result : Result Report Stop) : Type 0 where
-  pub named : All (NamesSome graph (m.around old) (image_in (m.seen old))) (asked_by graph said)
+  pub named : All (NamesSome said.clean graph (m.around old) (image_in (m.seen old))) (asked_by graph said)
   pub grown : RuleGraph
   pub grows : GrowsByPaths graph grown
   pub requests : List Request
@@ -145,7 +145,7 @@ TellsWord (Err s) word = s ≡ stop.Fault (own.UnknownTarget word)
 -- it is the first that names nothing, by the graph that was read
 abbrev pub TellsFirst : {W : Type 0} → Meaning W → Words → RuleGraph → W → Result Report Stop → Type 0
 TellsFirst m said graph old result =
-    (word : List ℕ) → TellsWord result word → IsFirstUnknown graph (m.around old) (image_in (m.seen old)) (asked_by graph said) word
+    (word : List ℕ) → TellsWord result word → IsFirstUnknown said.clean graph (m.around old) (image_in (m.seen old)) (asked_by graph said) word
 
 -- Behind a reading: with `-h` the help texts of the graph stand behind the opening; or a word names nothing; or what is requested is served.
 abbrev pub GoesAt : {W O : Type 0} → Meaning W → SinkMeaning O → Words → Step → RuleGraph → List ℕ → W → O → W → O → Result Report Stop → Type 0

@@ -3,7 +3,7 @@ ghost use Rattle.std.specs.Prelude.{◌≡◌, ◌<◌, ◌≤◌, ◌||◌, len
 ghost use Rattle.rule_graph.specs.Graphs.{RuleGraph};
 ghost use Rattle.rule_graph.specs.Rules.{are_below};
 ghost use Rattle.scons_base.specs.Normal.{is_top, is_root};
-ghost use Rattle.scons_top.specs.Below.{AddsTargets, AreBelow, AreInOrder, AreListed, begins_below, KnowsTargets, nodes_below, StartsAt};
+ghost use Rattle.scons_top.specs.Below.{AddsTargets, AreBelow, AreInOrder, AreListed, begins_below, has_below, KnowsTargets, nodes_below, StartsAt};
 ghost use Rattle.scons_top.specs.Requested.{AddsNodes, GivesNodes, HaveNodes, KnowsNodes};
 
 use indexmap::IndexSet;
@@ -71,6 +71,21 @@ impl Below {
         }
         nodes.extend_from_slice(below.as_slice())?;
         Ok(())
+    }
+
+    /// Whether a declared target lies below a directory.
+    pub(crate) fn has_below(
+        &mut self,
+        alloc: Global,
+        graph: &Graph,
+        dir: &PathText,
+    ) -> Result<bool, Memory>
+        ensures knows { KnowsNodes graph.now self.old → KnowsNodes graph.now self.new }
+        ensures lists { KnowsTargets graph.now self.old → KnowsTargets graph.now self.new }
+        ensures has { KnowsTargets graph.now self.old → IfOk result (λ has. has ≡ has_below graph.now dir.now) }
+    {
+        let nodes = self.targets_below(alloc, graph, dir)?;
+        Ok(!nodes.is_empty())
     }
 
     /// The declared targets below a directory, in the order of their paths.

@@ -2,7 +2,7 @@
 ghost use Rattle.std.specs.Prelude.{◌≡◌, None, IfOk, length, if◌then◌else◌};
 ghost use Rattle.build_files.specs.Causes.{HasLookCause};
 ghost use Rattle.build_files.specs.Leftovers.{is_copied, is_source};
-ghost use Rattle.scons_top.specs.LookedUp.{TellsCopied};
+ghost use Rattle.scons_top.specs.Copied.{TellsCopied};
 ghost use Rattle.variant_dirs.specs.Variants.{source_of};
 ghost use Rattle.world_api.specs.Looks.{Looks};
 

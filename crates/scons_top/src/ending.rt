@@ -9,6 +9,7 @@ ghost use Rattle.scons_base.specs.declared.ids.RuleId.{RuleId};
 ghost use Rattle.scons_top.specs.Endings.{ErrFinds, ErrEnds, ErrReports, AddsFew, AddsStopped, AddsUnwritten, Closes, ClosesWith};
 ghost use Rattle.scons_top.specs.Printed.{RequestPrints};
 ghost use Rattle.scons_top.specs.Sinks.{PrintsUpTo};
+ghost use Rattle.scons_top.specs.Reported.{AreFound};
 ghost use Rattle.scons_top.specs.RunLines.{AreMarks, closing_text, goes_on, has_started, is_made_by, progress, requests_text};
 ghost use Rattle.scons_top.specs.Told.{IsLine, ShowsFirst, TellsFaults};
 ghost use Rattle.scons_top.specs.Steps.{AllComeAt, AllFoundAt, IsFaultOr, IsStopOr, IsTold, RunEndsAt, ReportsAt};
@@ -319,6 +320,7 @@ pub(crate) fn closed(
     ensures causes { Closes found memory written result }
     ensures whole { result.status ≢ 3 → memory ≡ false }
     ensures list { result.status ≢ 3 → ClosesWith found written result.faults }
+    ensures only { AreFound found result.faults }
     ensures skipped { result.skipped ≡ skipped }
 {
     let mut faults = Listing::empty(alloc);

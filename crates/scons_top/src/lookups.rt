@@ -30,12 +30,10 @@ pub(crate) struct Lookups {
     pub(crate) below: Below,
     /// The records of former builds, once they were asked for.
     pub(crate) view: Option<View>,
-    /// Whether targets are to be removed: then what isn't there is no fault.
-    pub(crate) is_cleaning: bool,
 }
 
 impl Lookups {
-    pub(crate) fn new(is_cleaning: bool) -> Lookups
+    pub(crate) fn new() -> Lookups
         ensures knows { (graph : RuleGraph) → KnowsNodes graph result.below }
         ensures lists { (graph : RuleGraph) → KnowsTargets graph result.below }
         ensures none { result.view ≡ None }
@@ -43,7 +41,6 @@ impl Lookups {
         Lookups {
             below: Below::new(),
             view: None,
-            is_cleaning,
         }
     }
 }

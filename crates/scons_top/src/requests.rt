@@ -5,10 +5,10 @@ ghost use Rattle.build_files.specs.Leftovers.{is_made};
 ghost use Rattle.node_tree.specs.Nodes.{AreApart};
 ghost use Rattle.scons_top.specs.Asked.{asked_by, asked_of, word_of, words_asked};
 ghost use Rattle.scons_top.specs.Asked.{IsReadAs, IsUnknownAs, IsUnknownOf, IsWord, IsWordIn, NamesNone, StopsFor};
+ghost use Rattle.scons_top.specs.Absent.{FindsBelow};
 ghost use Rattle.scons_top.specs.Below.{KnowsTargets};
-ghost use Rattle.scons_top.specs.Finding.{AreOf, CountsOrAbove, Finds, FindsPath, FindsWord, FindsWords, IsLeftAlone, TellsRule};
 ghost use Rattle.scons_top.specs.Scripted.{GrowsByPaths};
-ghost use Rattle.scons_top.specs.LookedUp.{FindsBelow};
+ghost use Rattle.scons_top.specs.Finding.{AreOf, CountsOrAbove, Finds, FindsPath, FindsWord, FindsWords, IsLeftAlone, MissesWord, MissesWords, TellsRule};
 ghost use Rattle.scons_top.specs.Foreign.{StepByBytes, StepOnNone, StopsByBytes};
 ghost use Rattle.scons_top.specs.Naming.{HasGrown};
 ghost use Rattle.scons_top.specs.Requested.{AsksForNodes, AskForNodes, HasMore, KnowsNodes};
@@ -51,7 +51,8 @@ pub(crate) fn requests_of<W: World>(
     ensures step { WorldStep (W.meaning.counts world.old) (W.meaning.counts world.new) result }
     ensures stops { IfErr result (StopsFor (IsUnknownOf graph.new (asked_by graph.old words.now))) }
     ensures bytes { StepByBytes W.meaning world.old world.new result }
-    ensures names { FindsWords W.meaning graph.old (asked_by graph.old words.now) world.new result }
+    ensures names { FindsWords W.meaning words.now.clean graph.old (asked_by graph.old words.now) world.new result }
+    ensures misses { MissesWords W.meaning words.now.clean graph.old (asked_by graph.old words.now) world.new result }
     ensures grown { GrowsByPaths graph.old graph.new }
     ensures words { IfOk result (λ requests. words_asked requests.items ≡ asked_by graph.old words.now) }
     ensures nodes { IfOk result (λ requests. AskForNodes graph.new requests.items) }
@@ -68,23 +69,24 @@ fn requests_for<W: World>(
     alloc: Global,
     world: &mut W,
     graph: &mut Graph,
-    is_cleaning: bool,
+    clean: bool,
     asked: &[Text],
 ) -> Result<Vec<Request>, Stop>
     ensures watches { Watches W.meaning world.old world.new }
     ensures step { WorldStep (W.meaning.counts world.old) (W.meaning.counts world.new) result }
     ensures stops { IfErr result (StopsFor (IsUnknownOf graph.new asked.now)) }
     ensures bytes { StepByBytes W.meaning world.old world.new result }
-    ensures names { FindsWords W.meaning graph.old asked.now world.new result }
+    ensures names { FindsWords W.meaning clean graph.old asked.now world.new result }
+    ensures misses { MissesWords W.meaning clean graph.old asked.now world.new result }
     ensures grown { GrowsByPaths graph.old graph.new }
     ensures words { IfOk result (λ requests. words_asked requests.items ≡ asked.now) }
     ensures nodes { IfOk result (λ requests. AskForNodes graph.new requests.items) }
 {
     graph.laws();
     let mut requests = Vec::new(alloc);
-    let mut lookups = Lookups::new(is_cleaning);
+    let mut lookups = Lookups::new();
     for word in asked {
-        requests.push(request_of(alloc, world, graph, &mut lookups, word)?)?;
+        requests.push(request_of(alloc, world, graph, &mut lookups, clean, word)?)?;
     }
     Ok(requests)
 }
@@ -127,6 +129,7 @@ fn request_of<W: World>(
     world: &mut W,
     graph: &mut Graph,
     lookups: &mut Lookups,
+    clean: bool,
     word: &Text,
 ) -> Result<Request, Stop>
     requires { KnowsNodes graph.old lookups.old.below }
@@ -141,12 +144,13 @@ fn request_of<W: World>(
     ensures apart { AreApart graph.old.nodes }
     ensures grown { HasGrown graph.old graph.new }
     ensures of { AreOf W.meaning graph.old world.old lookups.old → AreOf W.meaning graph.old world.new lookups.new }
-    ensures names { AreOf W.meaning graph.old world.old lookups.old → FindsWord W.meaning graph.old word.now world.new result }
+    ensures names { AreOf W.meaning graph.old world.old lookups.old → FindsWord W.meaning clean graph.old word.now world.new result }
+    ensures misses { AreOf W.meaning graph.old world.old lookups.old → MissesWord W.meaning graph.old word.now world.new result }
 {
     graph.laws();
     if let Some(members) = graph.alias(word.as_str()) {
         let nodes = lookups.below.members_of(alloc, graph, members)?;
-        check_members(alloc, world, graph, lookups, word, nodes.as_slice())?;
+        check_members(alloc, world, graph, lookups, clean, word, members)?;
         return made(word, nodes);
     }
     let Some(path) = path_in(alloc, word)? else {
@@ -231,7 +235,7 @@ fn absent_request(
     ensures nodes { KnowsNodes graph.now lookups.old.below → IfOk result (AsksForNodes graph.now) }
     ensures lists { KnowsTargets graph.now lookups.old.below → KnowsTargets graph.now lookups.new.below }
     ensures view { lookups.new.view ≡ lookups.old.view }
-    ensures finds { KnowsTargets graph.now lookups.old.below → FindsBelow graph.now path.now result }
+    ensures finds { FindsBelow graph.now path.now lookups.old.below result }
 {
     let nodes = lookups.below.targets_below(alloc, graph, path)?;
     if nodes.is_empty() {
@@ -306,7 +310,11 @@ pub(crate) fn unknown(word: &Text) -> Stop
 
 /// Whether a path has a declared rule or a copy rule.
 #[tactic(auto, using(crate::proofs::Causing::causing))]
-fn has_rule<W: World>(world: &mut W, graph: &Graph, path: &PathText) -> Result<bool, ListEnd>
+pub(crate) fn has_rule<W: World>(
+    world: &mut W,
+    graph: &Graph,
+    path: &PathText,
+) -> Result<bool, ListEnd>
     ensures watches { Watches W.meaning world.old world.new }
     ensures cause { HasLookCause (W.meaning.counts world.old) (W.meaning.counts world.new) result }
     ensures none { IfOk result (λ has. has ≡ false → is_made graph.now path.now ≡ false) }

@@ -6,7 +6,7 @@ ghost use Rattle.scons_top.specs.Asked.{StopsUnknown, TellUnknown};
 ghost use Rattle.scons_top.specs.Builds.{Builds, RemembersAt, RunBuilds};
 ghost use Rattle.scons_top.specs.Causes.{RunCauses};
 ghost use Rattle.scons_top.specs.Cleaned.{Cleans, RunCleans};
-ghost use Rattle.scons_top.specs.Completed.{WordsComplete};
+ghost use Rattle.scons_top.specs.Accepted.{AcceptedCompletes};
 ghost use Rattle.scons_top.specs.Scripted.{DoesAt, ReportFollows, RunFollows, WordsFollow};
 ghost use Rattle.scons_top.specs.Finding.{RunTellsWords, TellsWordsOf};
 ghost use Rattle.scons_top.specs.Foreign.{OpensByBytes, RunByBytes, TellsBytes};
@@ -82,7 +82,7 @@ pub fn scons<W: World, O: Sink, E: Sink>(
     ensures remembers { (said : Words) → read words.now ≡ Ok said → RemembersAt W.meaning said result.step world.old world.new result }
     ensures status { HasStatus result.status result.faults }
     ensures causes { RunCauses W.meaning O.meaning E.meaning world.old out.old err.old world.new out.new err.new result }
-    ensures completes { WordsComplete W.meaning O.meaning E.meaning words.now world.old out.old err.old world.new out.new err.new result }
+    ensures completes { AcceptedCompletes W.meaning O.meaning E.meaning words.now world.old out.old err.old world.new out.new err.new result }
     ensures prints { ReportPrints W.meaning O.meaning words.now world.old out.old world.new out.new result }
     ensures follows { ReportFollows W.meaning O.meaning words.now world.old out.old world.new out.new result }
     ensures tells { TellsFaults E.meaning err.old err.new result }

@@ -15,6 +15,7 @@ use Rattle.build_run.proofs.Goings.{passes_on}
 use Rattle.scons_top.specs.Requested.{AreNodes, nodes_asked}
 use Rattle.scons_top.proofs.Building.{stops, stops_begun}
 use Rattle.scons_top.proofs.Built.{build_done, built_looked}
+use Rattle.scons_top.proofs.Reported.{reports_closed, reports_treed}
 use Rattle.scons_top.proofs.Shown.{caused_skipping, ends_skipping, none_found, tells_skipping}
 use Rattle.scons_top.proofs.Watching.{idle_of, passes_of}
 use Rattle.scons_top.proofs.Requesting.{are_below_all}
@@ -73,6 +74,7 @@ returns-clause-builds g c = λ asks ask tells sure.
     (are_below_all graph requested nodes) c.closed.ensures.well c.closed.ensures.whole
     (λ ne. all_told end.result.faults c.tell_end-written.result c.closed.result.faults (c.closed.ensures.list ne)) c.closed.ensures.skipped end.ensures.ends
     tells sure end.ensures.skips end.ensures.counts.counted end.ensures.remembers end.ensures.forgets end.ensures.succeeds
+    (reports_closed c.args.words.now end.result.faults c.tell_end-written.result c.closed.result c.closed.ensures.list c.closed.ensures.only) end.ensures.faulted
 
 pub returns-in_err-nodes-clause-safe : goal.returns-in_err-nodes-clause-safe
 returns-in_err-nodes-clause-safe g c = λ asks. steps_here g.W.Disk.meaning g.met.W.Disk.only_now c.args.world.now
@@ -142,7 +144,8 @@ returns-then-has_trees-clause-builds g c = λ asks ask tells sure.
     (steps_begun m g.met.W.Disk.reads_as old c.begin_store.new.world c.begin_store.ensures.goes.passes.told store.ensures.begins)
     end.ensures.told store.ensures.step store.ensures.map (are_below_all graph requested nodes)
     (λ zero. (has.faults is, has.memory is)) (λ ne. has.memory is) (λ ne. none_left end.result.faults report.faults (has.faults is)) refl end.ensures.ends
-    here (watches.looks.told.sure tells sure) end.ensures.skips end.ensures.counts.counted end.ensures.remembers end.ensures.forgets end.ensures.succeeds)
+    here (watches.looks.told.sure tells sure) end.ensures.skips end.ensures.counts.counted end.ensures.remembers end.ensures.forgets end.ensures.succeeds
+    (reports_treed said end.result.faults report (has.shows is)) end.ensures.faulted)
 
 pub returns-then-has_trees-clause-safe : goal.returns-then-has_trees-clause-safe
 returns-then-has_trees-clause-safe g c = λ asks.

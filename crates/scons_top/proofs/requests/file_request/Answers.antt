@@ -1,5 +1,5 @@
 use Rattle.scons_top.proofs.Opening.{bytes_list, bytes_after, bytes_memory}
-use Rattle.scons_top.proofs.Asking.{asked_list, asked_memory, look_at, ends_weaker, none_as}
+use Rattle.scons_top.proofs.Asking.{asked_list, asked_memory, look_at, ends_weaker, none_as, word_in}
 use Rattle.scons_top.specs.Asked.{IsWord, IsWordIn, NamesNone}
 use Rattle.std.proofs.Common.{◌∙◌, refl, subst, sym}
 use Rattle.scons_top.specs.Finding.{IsBare}
@@ -31,10 +31,10 @@ pub returns-in-Absent-clause-step : goal.returns-in-Absent-clause-step
 returns-in-Absent-clause-step g c = inner_step _ _ c.absent_request.result c.in_ok-kind_of.ensures.cause c.absent_request.ensures.step
 
 pub returns-in_err-kind_of-clause-stops : goal.returns-in_err-kind_of-clause-stops
-returns-in_err-kind_of-clause-stops g c = asked_list _ c.from_residual.result _ c.from_residual.ensures.1 (look_at _ _ _ _ c.in_err-kind_of.ensures.cause)
+returns-in_err-kind_of-clause-stops g c = asked_list (IsWordIn c.args.graph.now c.args.graph.now c.args.word.now) c.from_residual.result _ c.from_residual.ensures.1 (look_at (IsWordIn c.args.graph.now c.args.graph.now c.args.word.now) _ _ _ c.in_err-kind_of.ensures.cause)
 
 pub returns-in_err-targets_below-in-Dir-clause-stops : goal.returns-in_err-targets_below-in-Dir-clause-stops
-returns-in_err-targets_below-in-Dir-clause-stops g c = asked_memory _ c.from_residual-in_err-targets_below-in-Dir.result c.from_residual-in_err-targets_below-in-Dir.ensures.1
+returns-in_err-targets_below-in-Dir-clause-stops g c = asked_memory (IsWordIn c.args.graph.now c.args.graph.now c.args.word.now) c.from_residual-in_err-targets_below-in-Dir.result c.from_residual-in_err-targets_below-in-Dir.ensures.1
 
 pub returns-in_err-kind_of-clause-bytes : goal.returns-in_err-kind_of-clause-bytes
 returns-in_err-kind_of-clause-bytes g c = λ t. bytes_list _ c.from_residual.result _ c.from_residual.ensures.1
@@ -62,7 +62,7 @@ pub returns-in-Absent-clause-stops : goal.returns-in-Absent-clause-stops
 returns-in-Absent-clause-stops g c =
     let graph = c.args.graph.now in
     let word = c.args.word.now in
-    ends_weaker (IsWord word) (IsWordIn graph graph word) c.absent_request.result (λ other is. (is, refl)) c.absent_request.ensures.stops
+    ends_weaker (IsWord word) (IsWordIn graph graph word) c.absent_request.result (word_in graph word) c.absent_request.ensures.stops
 
 pub returns-in_err-kind_of-clause-grown : goal.returns-in_err-kind_of-clause-grown
 returns-in_err-kind_of-clause-grown g c = grown_here c.args.graph.now

@@ -6,7 +6,7 @@ use Rattle.sign_store.specs.Ends.{image_in}
 use Rattle.scons_top.proofs.Finding.{found_weaker, silent_exit, silent_made}
 use Rattle.scons_top.proofs.Grown.{grown_here}
 use Rattle.scons_top.proofs.Opening.{bytes_exit}
-use Rattle.scons_top.proofs.Asking.{asked_exit, stops_weaker, ends_weaker, none_as}
+use Rattle.scons_top.proofs.Asking.{asked_exit, stops_weaker, ends_weaker, none_as, word_in}
 use Rattle.scons_top.specs.Asked.{IsWord, IsWordIn, NamesNone}
 use Rattle.scons_top.proofs.Causing.{inner_step, world_exit}
 use Rattle.scons_top.proofs.requests.plain_request.Goals as goal
@@ -38,7 +38,7 @@ pub returns-then-branch-clause-stops : goal.returns-then-branch-clause-stops
 returns-then-branch-clause-stops g c =
     let graph = c.args.graph.now in
     let word = c.args.word.now in
-    ends_weaker (IsWord word) (IsWordIn graph graph word) c.absent_request.result (λ other is. (is, refl)) c.absent_request.ensures.stops
+    ends_weaker (IsWord word) (IsWordIn graph graph word) c.absent_request.result (word_in graph word) c.absent_request.ensures.stops
 
 pub returns-clause-stops : goal.returns-clause-stops
 returns-clause-stops g c =

@@ -1,15 +1,13 @@
 use Rattle.scons_top.proofs.Opening.{bytes_memory, bytes_exit, bytes_list, bytes_after}
-use Rattle.scons_top.proofs.Asking.{asked_exit, asked_list, asked_memory, look_at, stops_weaker, ends_weaker, none_as, read_as, target_spelled, unknown_path, unknown_alias, unknown_at}
-use Rattle.scons_top.specs.Asked.{IsNoPath, IsUnknownAs, IsWordIn, NamesNone}
-use Rattle.scons_top.specs.Requested.{AreNodes}
+use Rattle.scons_top.proofs.Asking.{alias_known, asked_exit, asked_list, asked_memory, look_at, misses_by, misses_exit, misses_none, stops_weaker, ends_weaker, none_as, read_as, target_spelled, unknown_path, unknown_at}
+use Rattle.scons_top.specs.Asked.{IsNoPath, IsUnknownAs, IsWord, IsWordIn, NamesNone}
 use Rattle.scons_base.specs.Resolve.{spelling}
 use Rattle.rule_graph.specs.Aliases.{members_of}
 use Rattle.build_files.specs.Leftovers.{is_made}
 use Rattle.scons_base.specs.PathFaults.{is_path}
 use Rattle.scons_top.specs.Finding.{TellsRule}
-use Rattle.scons_top.specs.Below.{KnowsTargets}
 use Rattle.scons_top.specs.Asked.{IsReadAs}
-use Rattle.scons_top.specs.Naming.{NamesNothing, NamesSome}
+use Rattle.scons_top.specs.Naming.{LacksFor, LacksOne, NamesNothing, NamesSome}
 use Rattle.scons_top.specs.Naming.NamesSome.{alias}
 use Rattle.sign_store.specs.Ends.{image_in}
 use Rattle.scons_top.proofs.Finding.{alias_named, nameless, no_path_only, nothing_named, of_on, silent_list, spelled_word, silent_made, silent_memory, unknown_exit, word_made, word_path}
@@ -19,9 +17,6 @@ use Rattle.std.specs.Option.{option_copied}
 use Rattle.scons_top.proofs.Watching.{watches_on}
 use Rattle.scons_top.proofs.Causing.{world_back, world_exit, look_exit, inner_step, world_memory}
 use Rattle.scons_top.proofs.requests.request_of.Goals as goal
-
-pub check_members-requires : goal.check_members-requires
-check_members-requires g c = subst (AreNodes c.args.graph.now) (sym c.as_slice.ensures.value) (c.in_ok-nodes.ensures.nodes c.requires)
 
 pub returns-in_err-nodes-clause-step : goal.returns-in_err-nodes-clause-step
 returns-in_err-nodes-clause-step g c = world_memory _ _ c.from_residual.result c.from_residual.ensures.1 refl
@@ -51,7 +46,7 @@ pub returns-clause-step : goal.returns-clause-step
 returns-clause-step g c = world_back _ _ _ c.file_request.result c.in_ok-has_rule.ensures.cause c.file_request.ensures.step
 
 pub returns-in_err-nodes-clause-stops : goal.returns-in_err-nodes-clause-stops
-returns-in_err-nodes-clause-stops g c = asked_memory _ c.from_residual.result c.from_residual.ensures.1
+returns-in_err-nodes-clause-stops g c = asked_memory (IsUnknownAs c.args.graph.now c.args.word.now) c.from_residual.result c.from_residual.ensures.1
 
 pub returns-in_err-check_members-clause-stops : goal.returns-in_err-check_members-clause-stops
 returns-in_err-check_members-clause-stops g c =
@@ -60,13 +55,13 @@ returns-in_err-check_members-clause-stops g c =
     let r = c.from_residual-in_err-check_members in
     let alias = sym c.alias.ensures.members ∙ ap option_copied c.in-Some.is in
     asked_exit (IsUnknownAs graph word) r.result _ r.ensures.1
-    (stops_weaker (IsNoPath word) (IsUnknownAs graph word) _ (λ other is. (is.0, unknown_alias graph word c.as_str.result.now c.in-Some.members.now c.as_str.ensures alias is.1)) c.in_err-check_members.ensures.stops)
+    (stops_weaker (IsNoPath word) (IsUnknownAs graph word) _ (alias_known graph word c.as_str.result.now c.in-Some.members.now c.as_str.ensures alias) c.in_err-check_members.ensures.stops)
 
 pub returns-in_err-path-clause-stops : goal.returns-in_err-path-clause-stops
-returns-in_err-path-clause-stops g c = asked_memory _ c.from_residual-in_err-path.result c.from_residual-in_err-path.ensures.1
+returns-in_err-path-clause-stops g c = asked_memory (IsUnknownAs c.args.graph.now c.args.word.now) c.from_residual-in_err-path.result c.from_residual-in_err-path.ensures.1
 
 pub returns-in_err-has_rule-clause-stops : goal.returns-in_err-has_rule-clause-stops
-returns-in_err-has_rule-clause-stops g c = asked_list _ c.from_residual-in_err-has_rule.result _ c.from_residual-in_err-has_rule.ensures.1 (look_at _ _ _ _ c.in_err-has_rule.ensures.cause)
+returns-in_err-has_rule-clause-stops g c = asked_list (IsUnknownAs c.args.graph.now c.args.word.now) c.from_residual-in_err-has_rule.result _ c.from_residual-in_err-has_rule.ensures.1 (look_at (IsUnknownAs c.args.graph.now c.args.word.now) _ _ _ c.in_err-has_rule.ensures.cause)
 
 pub returns-in_err-nodes-clause-bytes : goal.returns-in_err-nodes-clause-bytes
 returns-in_err-nodes-clause-bytes g c = λ t. bytes_memory _ c.from_residual.result c.from_residual.ensures.1
@@ -123,23 +118,30 @@ returns-in_err-nodes-clause-names g c = λ h rest. silent_memory _ _ c.from_resi
 pub returns-in_err-check_members-clause-names : goal.returns-in_err-check_members-clause-names
 returns-in_err-check_members-clause-names g c = λ h rest.
     let m = g.W.Disk.meaning in
+    let graph = c.args.graph.now in
+    let clean = c.args.clean in
     let r = c.from_residual-in_err-check_members in
     let word = c.args.word.now in
+    let members = c.in-Some.members.now in
     let around = m.around c.check_members.new.world in
     let records = image_in (m.seen c.check_members.new.world) in
-    let some = alias_named c.args.graph.now word c.as_str.result.now c.in-Some.members.now c.as_str.ensures (sym c.alias.ensures.members ∙ ap option_copied c.in-Some.is) in
-    unknown_exit (NamesSome c.args.graph.now around records word) (NamesNothing c.args.graph.now around records word) r.result _ r.ensures.1
-    (no_path_only (NamesNothing c.args.graph.now around records word) word _ c.in_err-check_members.ensures.stops
-    (λ bare. nameless c.args.graph.now around records word c.in-Some.members.now some bare))
+    let some = alias_named graph word c.as_str.result.now members c.as_str.ensures (sym c.alias.ensures.members ∙ ap option_copied c.in-Some.is) in
+    unknown_exit (NamesSome clean graph around records word) (NamesNothing graph around records word) r.result _ r.ensures.1
+    (no_path_only (NamesNothing graph around records word) (LacksOne graph around records members) word _ c.in_err-check_members.ensures.stops
+    (c.in_err-check_members.ensures.finds (record { targets = c.members_of.ensures.lists h.targets; records = h.records }) rest)
+    (λ bare lacks. nameless graph around records word members some bare lacks))
 
 pub returns-in-Some-clause-names : goal.returns-in-Some-clause-names
 returns-in-Some-clause-names g c = λ h rest.
     let m = g.W.Disk.meaning in
+    let graph = c.args.graph.now in
+    let clean = c.args.clean in
     let word = c.args.word.now in
     let around = m.around c.check_members.new.world in
     let records = image_in (m.seen c.check_members.new.world) in
-    let some = alias_named c.args.graph.now word c.as_str.result.now c.in-Some.members.now c.as_str.ensures (sym c.alias.ensures.members ∙ ap option_copied c.in-Some.is) in
-    silent_made (NamesSome c.args.graph.now around records word) (NamesNothing c.args.graph.now around records word) c.made.result c.made.ensures.stops (alias c.in-Some.members.now some)
+    let some = alias_named graph word c.as_str.result.now c.in-Some.members.now c.as_str.ensures (sym c.alias.ensures.members ∙ ap option_copied c.in-Some.is) in
+    silent_made (NamesSome clean graph around records word) (NamesNothing graph around records word) c.made.result c.made.ensures.stops
+    (alias c.in-Some.members.now some (c.in_ok-check_members.ensures.finds (record { targets = c.members_of.ensures.lists h.targets; records = h.records }) rest))
 
 pub returns-in_default-2-clause-names : goal.returns-in_default-2-clause-names
 returns-in_default-2-clause-names g c = λ h rest told is.
@@ -160,7 +162,7 @@ returns-then-branch-clause-names g c = λ h.
     let word = c.args.word.now in
     let read = subst (IsReadAs word) c.in-Some-2.is c.in_ok-path.ensures in
     let p = c.in_ok-path-2.path in
-    word_made m graph word p c.has_rule.new.world c.node_request.result (spelled_word graph word _ _ p read.0 c.top.ensures c.in_ok-path-2.ensures.path) read.1
+    word_made m c.args.clean graph word p c.has_rule.new.world c.node_request.result (spelled_word graph word _ _ p read.0 c.top.ensures c.in_ok-path-2.ensures.path) read.1
     (λ t. subst (TellsRule graph (m.around c.has_rule.new.world) p) c.if-branch.true (c.in_ok-has_rule.ensures.rule t)) c.node_request.ensures.stops
 
 pub returns-clause-names : goal.returns-clause-names
@@ -171,7 +173,7 @@ returns-clause-names g c = λ h.
     let none : members_of graph.aliases word ≡ None = search rules in
     let read = subst (IsReadAs word) c.in-Some-2.is c.in_ok-path.ensures in
     let p = c.in_ok-path-2.path in
-    word_path m graph word p c.has_rule.new.world c.file_request.new.world c.file_request.result none (spelled_word graph word _ _ p read.0 c.top.ensures c.in_ok-path-2.ensures.path) read.1
+    word_path m c.args.clean graph word p c.has_rule.new.world c.file_request.new.world c.file_request.result none (spelled_word graph word _ _ p read.0 c.top.ensures c.in_ok-path-2.ensures.path) read.1
     c.file_request.ensures.watches.looks (λ t. subst (TellsRule graph (m.around c.has_rule.new.world) p) c.if-branch.false (c.in_ok-has_rule.ensures.rule t))
     (c.file_request.ensures.finds (of_on m graph c.args.world.now c.has_rule.new.world c.args.lookups.now c.has_rule.ensures.watches.looks h))
 
@@ -179,16 +181,16 @@ pub returns-in_err-nodes-clause-of : goal.returns-in_err-nodes-clause-of
 returns-in_err-nodes-clause-of g c = λ h. record { targets = c.members_of.ensures.lists h.targets; records = h.records }
 
 pub returns-in_err-check_members-clause-of : goal.returns-in_err-check_members-clause-of
-returns-in_err-check_members-clause-of g c = λ h. record {
-  targets = subst (KnowsTargets c.args.graph.now) (sym c.check_members.ensures.below) (c.members_of.ensures.lists h.targets);
-  records = c.check_members.ensures.records h.records;
-}
+returns-in_err-check_members-clause-of g c = λ h. c.check_members.ensures.of (record { targets = c.members_of.ensures.lists h.targets; records = h.records })
 
 pub returns-in-Some-clause-of : goal.returns-in-Some-clause-of
-returns-in-Some-clause-of g c = λ h. record {
-  targets = subst (KnowsTargets c.args.graph.now) (sym c.check_members.ensures.below) (c.members_of.ensures.lists h.targets);
-  records = c.check_members.ensures.records h.records;
-}
+returns-in-Some-clause-of g c = λ h. c.check_members.ensures.of (record { targets = c.members_of.ensures.lists h.targets; records = h.records })
+
+pub returns-in_err-check_members-clause-knows : goal.returns-in_err-check_members-clause-knows
+returns-in_err-check_members-clause-knows g c = λ known. c.check_members.ensures.knows (c.members_of.ensures.knows known)
+
+pub returns-in-Some-clause-knows : goal.returns-in-Some-clause-knows
+returns-in-Some-clause-knows g c = λ known. c.check_members.ensures.knows (c.members_of.ensures.knows known)
 
 pub returns-in_err-has_rule-clause-of : goal.returns-in_err-has_rule-clause-of
 returns-in_err-has_rule-clause-of g c = λ h. of_on g.W.Disk.meaning c.args.graph.now c.args.world.now c.has_rule.new.world c.args.lookups.now c.has_rule.ensures.watches.looks h
@@ -217,3 +219,48 @@ returns-in_err-path-clause-grown g c = grown_here c.args.graph.now
 
 pub returns-in_err-has_rule-clause-grown : goal.returns-in_err-has_rule-clause-grown
 returns-in_err-has_rule-clause-grown g c = grown_here c.args.graph.now
+
+-- members that are told to be missing
+
+pub returns-in_err-nodes-clause-misses : goal.returns-in_err-nodes-clause-misses
+returns-in_err-nodes-clause-misses g c = λ h rest.
+    misses_by NamesNone _ c.from_residual.result (λ node target never. never) (asked_memory NamesNone c.from_residual.result c.from_residual.ensures.1)
+
+pub returns-in_err-check_members-clause-misses : goal.returns-in_err-check_members-clause-misses
+returns-in_err-check_members-clause-misses g c = λ h rest.
+    let m = g.W.Disk.meaning in
+    let graph = c.args.graph.now in
+    let r = c.from_residual-in_err-check_members in
+    let word = c.args.word.now in
+    let members = c.in-Some.members.now in
+    let new = c.check_members.new.world in
+    let some = alias_named graph word c.as_str.result.now members c.as_str.ensures (sym c.alias.ensures.members ∙ ap option_copied c.in-Some.is) in
+    misses_exit (λ node. LacksFor graph (m.around new) (image_in (m.seen new)) word node) r.result _ r.ensures.1
+    (λ node target told. record {
+      members = members;
+      alias = some;
+      first = c.in_err-check_members.ensures.misses (record { targets = c.members_of.ensures.lists h.targets; records = h.records }) rest node target told;
+    })
+
+pub returns-in-Some-clause-misses : goal.returns-in-Some-clause-misses
+returns-in-Some-clause-misses g c = λ h rest. misses_by NamesNone _ c.made.result (λ node target never. never) c.made.ensures.stops
+
+pub returns-in_default-2-clause-misses : goal.returns-in_default-2-clause-misses
+returns-in_default-2-clause-misses g c = λ h rest. misses_none (IsWord c.args.word.now) _ c.unknown.result (λ node target never. never) c.unknown.ensures.stops
+
+pub returns-in_err-path-clause-misses : goal.returns-in_err-path-clause-misses
+returns-in_err-path-clause-misses g c = λ h rest.
+    let r = c.from_residual-in_err-path in
+    misses_by NamesNone _ r.result (λ node target never. never) (asked_memory NamesNone r.result r.ensures.1)
+
+pub returns-in_err-has_rule-clause-misses : goal.returns-in_err-has_rule-clause-misses
+returns-in_err-has_rule-clause-misses g c = λ h rest.
+    let r = c.from_residual-in_err-has_rule in
+    misses_by NamesNone _ r.result (λ node target never. never) (asked_list NamesNone r.result _ r.ensures.1 (look_at NamesNone _ _ _ c.in_err-has_rule.ensures.cause))
+
+pub returns-then-branch-clause-misses : goal.returns-then-branch-clause-misses
+returns-then-branch-clause-misses g c = λ h rest. misses_by NamesNone _ c.node_request.result (λ node target never. never) c.node_request.ensures.stops
+
+pub returns-clause-misses : goal.returns-clause-misses
+returns-clause-misses g c = λ h rest.
+    misses_by (IsWordIn c.args.graph.now c.file_request.new.graph c.args.word.now) _ c.file_request.result (λ node target never. never) c.file_request.ensures.stops

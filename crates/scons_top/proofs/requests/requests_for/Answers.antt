@@ -8,7 +8,7 @@ use Rattle.scons_top.specs.Asked.{words_asked}
 use Rattle.scons_top.specs.Naming.{NamesSome}
 use Rattle.scons_top.specs.Requested.{AskForNodes, AsksForNodes}
 use Rattle.build_means.specs.Rules.{IsReading}
-use Rattle.scons_top.proofs.Finding.{of_here, of_nothing, of_there, told_word, words_all, words_memory, words_more, words_stop}
+use Rattle.scons_top.proofs.Finding.{of_here, of_nothing, of_there, told_missing, told_word, words_all, words_memory, words_miss, words_more, words_stop, words_unmissed}
 use Rattle.scons_top.proofs.Grown.{grown_here, grown_on}
 use Rattle.scons_top.proofs.Requesting.{asks_pushed, words_pushed}
 use Rattle.scons_top.proofs.Watching.{watches_on, watches_same}
@@ -35,7 +35,7 @@ loop-word-init g c =
       nodes = subst (AskForNodes graph) (sym none) (All-nil (AsksForNodes graph));
       grown = grown_here graph;
       of = of_nothing m graph world c.new-lookups.result (c.new-lookups.ensures.lists graph) c.new-lookups.ensures.none;
-      names = λ rest. All-nil (NamesSome graph (m.around world) (image_in (m.seen world)));
+      names = λ rest. All-nil (NamesSome c.args.clean graph (m.around world) (image_in (m.seen world)));
       words = ap words_asked none;
     }
 
@@ -51,7 +51,7 @@ loop-word-preserved g c =
       grown = grown_on c.args.graph.now c.loop-word.graph c.request_of.new.graph c.loop-word.invariant.grown c.request_of.ensures.grown;
       of = of_here g.W.Disk.meaning c.args.graph.now c.loop-word.graph c.loop-word.invariant.grown reading c.request_of.ensures.apart c.request_of.new.world c.request_of.new.lookups
           (c.request_of.ensures.of (of_there g.W.Disk.meaning c.args.graph.now c.loop-word.graph c.loop-word.invariant.grown reading c.request_of.ensures.apart c.loop-word.world c.loop-word.lookups c.loop-word.invariant.of));
-      names = words_more g.W.Disk.meaning c.args.graph.now c.loop-word.graph c.loop-word.invariant.grown reading c.request_of.ensures.apart c.loop-word.world c.request_of.new.world
+      names = words_more g.W.Disk.meaning c.args.graph.now c.loop-word.graph c.loop-word.invariant.grown reading c.request_of.ensures.apart c.args.clean c.loop-word.world c.request_of.new.world
           c.args.asked.now c.loop-word.word-index c.word-item.result c.request_of.ensures.watches.looks c.loop-word-test.true c.word-item.is c.loop-word.invariant.names
           (c.in_ok-request_of.ensures.names (of_there g.W.Disk.meaning c.args.graph.now c.loop-word.graph c.loop-word.invariant.grown reading c.request_of.ensures.apart c.loop-word.world c.loop-word.lookups c.loop-word.invariant.of));
       words = words_pushed c.loop-word.requests.items _ _ c.args.asked.now c.loop-word.word-index c.word-item.result c.loop-word-test.true c.word-item.is
@@ -75,7 +75,7 @@ returns-in_err-request_of-clause-stops g c =
     (stops_weaker (IsUnknownAs graph item.result) is_one _ (λ other is. one other c.loop-word-test.true item.is is) c.in_err-request_of.ensures.stops)
 
 pub returns-in_err-push-clause-stops : goal.returns-in_err-push-clause-stops
-returns-in_err-push-clause-stops g c = asked_memory _ c.from_residual-in_err-push.result c.from_residual-in_err-push.ensures.1
+returns-in_err-push-clause-stops g c = asked_memory (IsUnknownOf c.request_of.new.graph c.args.asked.now) c.from_residual-in_err-push.result c.from_residual-in_err-push.ensures.1
 
 pub returns-in_err-request_of-clause-bytes : goal.returns-in_err-request_of-clause-bytes
 returns-in_err-request_of-clause-bytes g c =
@@ -93,16 +93,32 @@ returns-in_err-request_of-clause-names g c =
     let before = c.loop-word.invariant in
     let apart = c.request_of.ensures.apart in
     let reading : IsReading old = record { apart = c.laws.ensures.apart; single = c.laws.ensures.single; named = c.laws.ensures.named } in
-    words_stop m old graph before.grown reading apart c.loop-word.world c.request_of.new.world c.args.asked.now c.loop-word.word-index c.word-item.result
+    words_stop m old graph before.grown reading apart c.args.clean c.loop-word.world c.request_of.new.world c.args.asked.now c.loop-word.word-index c.word-item.result
     c.request_of.ensures.watches.looks c.loop-word-test.true c.word-item.is before.names c.from_residual.result _ c.from_residual.ensures.1
     (c.in_err-request_of.ensures.names (of_there m old graph before.grown reading apart c.loop-word.world c.loop-word.lookups before.of))
     (told_word c.request_of.new.graph c.word-item.result _ c.in_err-request_of.ensures.stops)
 
 pub returns-in_err-push-clause-names : goal.returns-in_err-push-clause-names
-returns-in_err-push-clause-names g c = words_memory g.W.Disk.meaning c.args.graph.now c.args.asked.now c.request_of.new.world c.from_residual-in_err-push.result c.from_residual-in_err-push.ensures.1
+returns-in_err-push-clause-names g c = words_memory g.W.Disk.meaning c.args.clean c.args.graph.now c.args.asked.now c.request_of.new.world c.from_residual-in_err-push.result c.from_residual-in_err-push.ensures.1
 
 pub returns-clause-names : goal.returns-clause-names
-returns-clause-names g c = words_all g.W.Disk.meaning c.args.graph.now c.args.asked.now c.loop-word.word-index c.loop-word.world c.loop-word-test.false c.loop-word.invariant.names
+returns-clause-names g c = words_all g.W.Disk.meaning c.args.clean c.args.graph.now c.args.asked.now c.loop-word.word-index c.loop-word.world c.loop-word-test.false c.loop-word.invariant.names
+
+pub returns-in_err-request_of-clause-misses : goal.returns-in_err-request_of-clause-misses
+returns-in_err-request_of-clause-misses g c =
+    let m = g.W.Disk.meaning in
+    let old = c.args.graph.now in
+    let graph = c.loop-word.graph in
+    let before = c.loop-word.invariant in
+    let apart = c.request_of.ensures.apart in
+    let reading : IsReading old = record { apart = c.laws.ensures.apart; single = c.laws.ensures.single; named = c.laws.ensures.named } in
+    words_miss m old graph before.grown reading apart c.args.clean c.loop-word.world c.request_of.new.world c.args.asked.now c.loop-word.word-index c.word-item.result
+    c.request_of.ensures.watches.looks c.loop-word-test.true c.word-item.is before.names c.from_residual.result _ c.from_residual.ensures.1
+    (c.in_err-request_of.ensures.misses (of_there m old graph before.grown reading apart c.loop-word.world c.loop-word.lookups before.of))
+    (told_missing c.request_of.new.graph c.word-item.result _ c.in_err-request_of.ensures.stops)
+
+pub returns-in_err-push-clause-misses : goal.returns-in_err-push-clause-misses
+returns-in_err-push-clause-misses g c = words_unmissed g.W.Disk.meaning c.args.clean c.args.graph.now c.args.asked.now c.request_of.new.world c.from_residual-in_err-push.result c.from_residual-in_err-push.ensures.1
 
 pub returns-in_err-request_of-clause-grown : goal.returns-in_err-request_of-clause-grown
 returns-in_err-request_of-clause-grown g c =

@@ -17,6 +17,6 @@ invariant-loop-word g l = record {
   nodes : AskForNodes l.graph l.requests.items;
   grown : HasGrown l.fn.graph l.graph;
   of : AreOf g.W.Disk.meaning l.fn.graph l.world l.lookups;
-  names : AtRest g.W.Disk.meaning l.world → All (NamesSome l.fn.graph (g.W.Disk.meaning.around l.world) (image_in (g.W.Disk.meaning.seen l.world))) (take l.word-index l.asked);
+  names : AtRest g.W.Disk.meaning l.world → All (NamesSome l.clean l.fn.graph (g.W.Disk.meaning.around l.world) (image_in (g.W.Disk.meaning.seen l.world))) (take l.word-index l.asked);
   words : words_asked l.requests.items ≡ take l.word-index l.asked;
 }

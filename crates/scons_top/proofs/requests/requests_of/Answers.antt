@@ -2,8 +2,8 @@ use Rattle.scons_top.proofs.Opening.{bytes_memory}
 use Rattle.scons_top.proofs.Asking.{asked_memory}
 use Rattle.std.proofs.Common.{rules, ◌≡◌, ℕ, List, IfErr, refl, subst}
 use Rattle.scons_top.specs.Asked.{asked_by, IsUnknownOf, StopsFor}
-use Rattle.scons_top.specs.Finding.{FindsWords}
-use Rattle.scons_top.proofs.Finding.{words_memory}
+use Rattle.scons_top.specs.Finding.{FindsWords, MissesWords}
+use Rattle.scons_top.proofs.Finding.{words_memory, words_unmissed}
 use Rattle.scons_top.proofs.Causing.{world_memory}
 use Rattle.scons_top.proofs.Declaring.{grows_here}
 use Rattle.scons_top.proofs.requests.requests_of.Goals as goal
@@ -15,10 +15,10 @@ pub returns-in_err-asked-in_default-clause-step : goal.returns-in_err-asked-in_d
 returns-in_err-asked-in_default-clause-step g c = let r = c.from_residual-in_err-asked-in_default in world_memory _ _ r.result r.ensures.1 refl
 
 pub returns-in_err-asked-in-empty-clause-stops : goal.returns-in_err-asked-in-empty-clause-stops
-returns-in_err-asked-in-empty-clause-stops g c = asked_memory _ c.from_residual.result c.from_residual.ensures.1
+returns-in_err-asked-in-empty-clause-stops g c = asked_memory (IsUnknownOf c.args.graph.now (asked_by c.args.graph.now c.args.words.now)) c.from_residual.result c.from_residual.ensures.1
 
 pub returns-in_err-asked-in_default-clause-stops : goal.returns-in_err-asked-in_default-clause-stops
-returns-in_err-asked-in_default-clause-stops g c = asked_memory _ c.from_residual-in_err-asked-in_default.result c.from_residual-in_err-asked-in_default.ensures.1
+returns-in_err-asked-in_default-clause-stops g c = asked_memory (IsUnknownOf c.args.graph.now (asked_by c.args.graph.now c.args.words.now)) c.from_residual-in_err-asked-in_default.result c.from_residual-in_err-asked-in_default.ensures.1
 
 pub returns-in_err-asked-in-empty-clause-bytes : goal.returns-in_err-asked-in-empty-clause-bytes
 returns-in_err-asked-in-empty-clause-bytes g c = λ t. bytes_memory _ c.from_residual.result c.from_residual.ensures.1
@@ -33,16 +33,16 @@ returns-clause-stops g c =
     subst (λ (words : List (List ℕ)). IfErr c.requests_for.result (StopsFor (IsUnknownOf c.requests_for.new.graph words))) same c.requests_for.ensures.stops
 
 pub returns-in_err-asked-in-empty-clause-names : goal.returns-in_err-asked-in-empty-clause-names
-returns-in_err-asked-in-empty-clause-names g c = words_memory g.W.Disk.meaning _ _ _ c.from_residual.result c.from_residual.ensures.1
+returns-in_err-asked-in-empty-clause-names g c = words_memory g.W.Disk.meaning _ _ _ _ c.from_residual.result c.from_residual.ensures.1
 
 pub returns-in_err-asked-in_default-clause-names : goal.returns-in_err-asked-in_default-clause-names
-returns-in_err-asked-in_default-clause-names g c = let r = c.from_residual-in_err-asked-in_default in words_memory g.W.Disk.meaning _ _ _ r.result r.ensures.1
+returns-in_err-asked-in_default-clause-names g c = let r = c.from_residual-in_err-asked-in_default in words_memory g.W.Disk.meaning _ _ _ _ r.result r.ensures.1
 
 pub returns-clause-names : goal.returns-clause-names
 returns-clause-names g c =
     let asked = asked_by c.args.graph.now c.args.words.now in
     let same : c.as_slice-2.result.now ≡ asked = search rules in
-    subst (λ (words : List (List ℕ)). FindsWords g.W.Disk.meaning c.args.graph.now words c.requests_for.new.world c.requests_for.result) same c.requests_for.ensures.names
+    subst (λ (words : List (List ℕ)). FindsWords g.W.Disk.meaning c.args.words.now.clean c.args.graph.now words c.requests_for.new.world c.requests_for.result) same c.requests_for.ensures.names
 
 pub returns-in_err-asked-in-empty-clause-grown : goal.returns-in_err-asked-in-empty-clause-grown
 returns-in_err-asked-in-empty-clause-grown g c = grows_here c.args.graph.now
@@ -52,3 +52,15 @@ returns-in_err-asked-in_default-clause-grown g c = grows_here c.args.graph.now
 
 pub returns-clause-grown : goal.returns-clause-grown
 returns-clause-grown g c = c.requests_for.ensures.grown
+
+pub returns-in_err-asked-in-empty-clause-misses : goal.returns-in_err-asked-in-empty-clause-misses
+returns-in_err-asked-in-empty-clause-misses g c = words_unmissed g.W.Disk.meaning _ _ _ _ c.from_residual.result c.from_residual.ensures.1
+
+pub returns-in_err-asked-in_default-clause-misses : goal.returns-in_err-asked-in_default-clause-misses
+returns-in_err-asked-in_default-clause-misses g c = let r = c.from_residual-in_err-asked-in_default in words_unmissed g.W.Disk.meaning _ _ _ _ r.result r.ensures.1
+
+pub returns-clause-misses : goal.returns-clause-misses
+returns-clause-misses g c =
+    let asked = asked_by c.args.graph.now c.args.words.now in
+    let same : c.as_slice-2.result.now ≡ asked = search rules in
+    subst (λ (words : List (List ℕ)). MissesWords g.W.Disk.meaning c.args.words.now.clean c.args.graph.now words c.requests_for.new.world c.requests_for.result) same c.requests_for.ensures.misses

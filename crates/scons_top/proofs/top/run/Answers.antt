@@ -1,6 +1,6 @@
 use Rattle.scons_top.proofs.Serving.{run_asked, run_help, run_read, run_served}
 use Rattle.scons_top.proofs.Telling.{none_told, stops_silent}
-use Rattle.scons_top.proofs.Wording.{reading_before, run_behind, run_refused, run_untold}
+use Rattle.scons_top.proofs.Wording.{reading_asks, reading_before, run_behind, run_refused, run_untold, serves_asks}
 use Rattle.scons_top.proofs.Opening.{reading_ends, help_ends, asked_unopened, run_after}
 use Rattle.scons_top.proofs.Clearing.{not_reading, cleans_after}
 use Rattle.scons_top.specs.declared.step.Step.TheVariants as step
@@ -12,7 +12,7 @@ use Rattle.world_api.proofs.Looking.{looks_joined}
 use Rattle.scons_top.proofs.Early.{any_stop, stop_after}
 use Rattle.std.proofs.Common.{◌∙◌, ap, inl, subst, sym}
 use Rattle.build_run.specs.Causes.{Outside}
-use Rattle.scons_top.specs.Asked.{words_asked}
+use Rattle.scons_top.specs.Asked.{asked_by, words_asked, IsUnknownOf}
 use Rattle.scons_top.specs.Requested.{AskForNodes, nodes_asked}
 use Rattle.scons_top.proofs.Building.{no_help, stops}
 use Rattle.scons_top.proofs.Built.{builds_looked}
@@ -119,7 +119,7 @@ pub returns-then-words-clause-ends : goal.returns-then-words-clause-ends
 returns-then-words-clause-ends g c = c.help.ensures.ends
 
 pub returns-in_err-requests-clause-ends : goal.returns-in_err-requests-clause-ends
-returns-in_err-requests-clause-ends g c = let r = c.from_residual-in_err-requests in ends_exit step.Requests r.result _ r.ensures.1 (stops_asked _ _ c.in_err-requests.ensures.stops)
+returns-in_err-requests-clause-ends g c = let r = c.from_residual-in_err-requests in ends_exit step.Requests r.result _ r.ensures.1 (stops_asked (IsUnknownOf c.requests_of.new.graph (asked_by c.in_ok-graph.graph c.args.words.now)) _ c.in_err-requests.ensures.stops)
 
 pub returns-clause-ends : goal.returns-clause-ends
 returns-clause-ends g c = c.serve.ensures.ends
@@ -166,7 +166,7 @@ returns-then-words-clause-unknown g c = unknown_else c.args.words.now step.Help 
 pub returns-in_err-requests-clause-unknown : goal.returns-in_err-requests-clause-unknown
 returns-in_err-requests-clause-unknown g c =
     let r = c.from_residual-in_err-requests in
-    unknown_stop c.args.words.now _ c.requests_of.new.graph r.result _ r.ensures.1 c.in_err-requests.ensures.stops
+    unknown_stop c.args.words.now c.in_ok-graph.graph.defaults c.requests_of.new.graph r.result _ r.ensures.1 c.in_err-requests.ensures.stops
 
 pub returns-clause-unknown : goal.returns-clause-unknown
 returns-clause-unknown g c =
@@ -205,23 +205,23 @@ returns-then-words-clause-tells g c = none_told g.E.Sink.meaning c.args.err.now 
 pub returns-in_err-graph-clause-asks : goal.returns-in_err-graph-clause-asks
 returns-in_err-graph-clause-asks g c =
     run_untold g.W.Disk.meaning c.args.words.now c.read.new.at c.args.world.now c.read.new.world c.from_residual.result (λ word. reading_else _ word c.read.ensures.reading)
-    (reading_before _ c.read.ensures.reading) (returns-in_err-graph-clause-ends g c)
+    (reading_asks _ c.read.ensures.reading) (reading_before _ c.read.ensures.reading) (returns-in_err-graph-clause-ends g c)
 
 pub returns-then-words-clause-asks : goal.returns-then-words-clause-asks
 returns-then-words-clause-asks g c =
-    run_untold g.W.Disk.meaning c.args.words.now step.Help c.args.world.now c.read.new.world c.help.result (λ word h. h) (λ behind. behind) c.help.ensures.ends
+    run_untold g.W.Disk.meaning c.args.words.now step.Help c.args.world.now c.read.new.world c.help.result (λ word h. h) (λ is. let no = is in cc) (λ behind. behind) c.help.ensures.ends
 
 pub returns-in_err-requests-clause-asks : goal.returns-in_err-requests-clause-asks
 returns-in_err-requests-clause-asks g c =
     let r = c.from_residual-in_err-requests in
     run_refused g.W.Disk.meaning c.args.words.now c.in_ok-graph.graph c.args.world.now c.requests_of.new.world
-    (looks_joined _ _ _ _ c.read.ensures.watches.looks c.requests_of.ensures.watches.looks) c.requires.idle r.result _ r.ensures.1 c.in_err-requests.ensures.names
+    (looks_joined _ _ _ _ c.read.ensures.watches.looks c.requests_of.ensures.watches.looks) c.requires.idle r.result _ r.ensures.1 c.in_err-requests.ensures.names c.in_err-requests.ensures.misses
 
 pub returns-clause-asks : goal.returns-clause-asks
 returns-clause-asks g c =
     run_behind g.W.Disk.meaning c.args.words.now c.in_ok-graph.graph c.args.world.now c.requests_of.new.world
     (looks_joined _ _ _ _ c.read.ensures.watches.looks c.requests_of.ensures.watches.looks) c.requires.idle c.serve.new.at c.serve.new.world c.serve.result
-    c.serve.ensures.passes.told.told c.in_ok-requests.ensures.names (λ word. serves_else c.args.words.now _ word c.serve.ensures.serves) c.serve.ensures.ends
+    c.serve.ensures.passes.told.told c.in_ok-requests.ensures.names (λ word. serves_else c.args.words.now _ word c.serve.ensures.serves) (serves_asks c.args.words.now _ c.serve.ensures.serves) c.serve.ensures.ends
 
 pub returns-in_err-graph-clause-follows : goal.returns-in_err-graph-clause-follows
 returns-in_err-graph-clause-follows g c =

@@ -155,11 +155,11 @@ returns-in-Some-clause-tells g c = none_told g.E.Sink.meaning c.args.err.now c.l
 
 pub returns-in_err-words-clause-asks : goal.returns-in_err-words-clause-asks
 returns-in_err-words-clause-asks g c = λ said is.
-    run_untold g.W.Disk.meaning said step.Words c.args.world.now c.args.world.now c.from_residual.result (λ word h. h) (λ behind. behind) (returns-in_err-words-clause-ends g c)
+    run_untold g.W.Disk.meaning said step.Words c.args.world.now c.args.world.now c.from_residual.result (λ word h. h) (λ is. let no = is in cc) (λ behind. behind) (returns-in_err-words-clause-ends g c)
 
 pub returns-in-Some-clause-asks : goal.returns-in-Some-clause-asks
 returns-in-Some-clause-asks g c = λ said is.
-    run_untold g.W.Disk.meaning said step.Load c.args.world.now c.args.world.now c.load.result (λ word h. h) (λ behind. behind) c.load.ensures.ends
+    run_untold g.W.Disk.meaning said step.Load c.args.world.now c.args.world.now c.load.result (λ word h. h) (λ is. let no = is in cc) (λ behind. behind) c.load.ensures.ends
 
 pub returns-clause-asks : goal.returns-clause-asks
 returns-clause-asks g c = λ said is.
