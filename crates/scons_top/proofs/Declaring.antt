@@ -111,8 +111,8 @@ grows_by_paths g h grown reading = record {
   by_paths =
       ap graph_by grown.same
       ∙ same_by_paths g h.nodes
-        (subst (λ (nodes : List (List ℕ)). map (by_paths nodes) g.rules ≡ map (by_paths g.nodes) g.rules) (sym grown.nodes) (rules_stay g.nodes grown.more g.rules reading.named.each_rule))
-        (subst (λ (nodes : List (List ℕ)). map (alias_by nodes) g.aliases ≡ map (alias_by g.nodes) g.aliases) (sym grown.nodes) (aliases_stay g.nodes grown.more g.aliases reading.named.each_alias));
+      (subst (λ (nodes : List (List ℕ)). map (by_paths nodes) g.rules ≡ map (by_paths g.nodes) g.rules) (sym grown.nodes) (rules_stay g.nodes grown.more g.rules reading.named.each_rule))
+      (subst (λ (nodes : List (List ℕ)). map (alias_by nodes) g.aliases ≡ map (alias_by g.nodes) g.aliases) (sym grown.nodes) (aliases_stay g.nodes grown.more g.aliases reading.named.each_alias));
 }
 
 pub grows_here : (g : RuleGraph) → GrowsByPaths g g
@@ -207,6 +207,8 @@ module _ {W O : Type 0} (m : Meaning W) (p : SinkMeaning O) (said : Words) where
     pub read_declared : (last : O) (g : RuleGraph) → Printed p y last (progress said read_text) → Over m p b x c y (λ f text. HasOutcome (Reads f said) text (Ok g)) → ReadsScripts m p said a start c last (Ok g)
     read_declared last g ends over = λ told tells idle.
         let here = ends.told told in
-        let more = host.text here in
-        (more.0, λ f shows. came a b c x y (Ok g) before looks over here tells idle more.0 more.1 f shows,
-        opening_is (p.text start) (progress said reading_text) more.0 (progress said read_text) (p.text x) (p.text y) (p.text last) (first.whole (host.told here)) more.1 (ends.whole told))
+        let more = host.text here in (
+          more.0,
+          λ f shows. came a b c x y (Ok g) before looks over here tells idle more.0 more.1 f shows,
+          opening_is (p.text start) (progress said reading_text) more.0 (progress said read_text) (p.text x) (p.text y) (p.text last) (first.whole (host.told here)) more.1 (ends.whole told),
+        )

@@ -19,10 +19,11 @@ returns-in-Ok-add-clause-ok g c = λ f s.
 pub returns-clause-fault : goal.returns-clause-fault
 returns-clause-fault g c = λ f s t.
     let d = c.args.reading.now.declared in
-    let told = c.rule_stop-in-Err-add.ensures.told t ∙ ap (λ (e : Declared). rule_stop c.args.scripts.now e c.args.number c.in-Err-add.fault) c.add.ensures.rest in
-    (c.in-Err-add.fault,
-     adds f d c.args.number (graph_by c.args.reading.now.graph) c.wanted.new.locals c.in-Ok.wanted c.in_ok-libraries.libraries (Err c.in-Err-add.fault)
-     c.in-Ok.ensures.known (c.in-Ok.ensures.ok f)
-     (c.in_ok-libraries.ensures.ok f s ∙ ap (λ (w : List Wanted). found (map (found_in (standing_in f)) w)) c.as_slice.ensures)
-     (c.in-Err-add.ensures.fault (λ short. subst (λ (e : RuleReadFault). IsTold (rule_stop c.args.scripts.now d c.args.number e)) short (subst IsTold told t))),
-     told)
+    let told = c.rule_stop-in-Err-add.ensures.told t ∙ ap (λ (e : Declared). rule_stop c.args.scripts.now e c.args.number c.in-Err-add.fault) c.add.ensures.rest in (
+      c.in-Err-add.fault,
+      adds f d c.args.number (graph_by c.args.reading.now.graph) c.wanted.new.locals c.in-Ok.wanted c.in_ok-libraries.libraries (Err c.in-Err-add.fault)
+          c.in-Ok.ensures.known (c.in-Ok.ensures.ok f)
+          (c.in_ok-libraries.ensures.ok f s ∙ ap (λ (w : List Wanted). found (map (found_in (standing_in f)) w)) c.as_slice.ensures)
+          (c.in-Err-add.ensures.fault (λ short. subst (λ (e : RuleReadFault). IsTold (rule_stop c.args.scripts.now d c.args.number e)) short (subst IsTold told t))),
+      told,
+    )

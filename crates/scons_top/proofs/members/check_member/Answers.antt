@@ -55,9 +55,11 @@ returns-in_err-has-clause-misses g c = λ h rest.
 
 pub returns-clause-misses : goal.returns-clause-misses
 returns-clause-misses g c = λ h rest node target told.
-    let fault = subst (StopsFor (IsMissing c.args.word.now c.path-path.result.now)) told c.missing.ensures.stops in
-    (fault.0 ∙ path_at g.W.Disk.meaning c.args.graph.now c.args.member _ c.path-path.ensures.at, λ there.
-    let m = g.W.Disk.meaning in
-    let new = c.is_there.new.world in
-    (c.in_ok-has.ensures.there h rest).not c.if-has.false
-    (subst (IsThere c.args.graph.now (m.around new) (image_in (m.seen new))) (sym (path_at m c.args.graph.now c.args.member _ c.path-path.ensures.at)) there))
+    let fault = subst (StopsFor (IsMissing c.args.word.now c.path-path.result.now)) told c.missing.ensures.stops in (
+      fault.0 ∙ path_at g.W.Disk.meaning c.args.graph.now c.args.member _ c.path-path.ensures.at,
+      λ there.
+          let m = g.W.Disk.meaning in
+          let new = c.is_there.new.world in
+          (c.in_ok-has.ensures.there h rest).not c.if-has.false
+          (subst (IsThere c.args.graph.now (m.around new) (image_in (m.seen new))) (sym (path_at m c.args.graph.now c.args.member _ c.path-path.ensures.at)) there),
+    )
