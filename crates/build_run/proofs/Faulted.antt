@@ -26,7 +26,7 @@ use Rattle.turn_means.specs.Standing.{Outset}
 use Rattle.build_run.specs.Along.{HasFailed, IsReliable, IsWantedOf, StaysAlong}
 use Rattle.build_run.specs.Causes.{HasPrintEnd}
 use Rattle.build_run.specs.Endings.{KeepsWant}
-use Rattle.build_run.specs.Faulted.{fault_of, AddsCycle, AddsDone, AddsFault, AddsOut, AddsOutcome, Adds, AreFaulted, AreFaultsOf, AreNamedBy, EndsAtStart, EndsPlainly, GoesFaulted, HasFaultsBy, HasNoCycle, HasNoStartFault, IsCycleFault, IsFaultedAt, IsFirstBy, IsPlain, IsPlainEnd, IsStartEnd, IsUnstarted, IsWithout, LeadsAt, MayEnd, MayStandBeside, StandsBeside, TellsFaulted, TurnsFaulted, WaitForThemselves, none_yet, has_started, was_done, is_told, is_untold, stands_beside, is_kept, is_lost, out_behind, none_added, out_added, was_lost, was_told, none_told, cycle_told, plain_told}
+use Rattle.build_run.specs.Faulted.{fault_of, AddsCycle, AddsDone, AddsFault, AddsOut, AddsOutcome, Adds, AreFaulted, AreFaultsOf, AreNamedBy, EndsAtStart, EndsPlainly, GoesFaulted, HasFaultsBy, HasNoCycle, HasNoStartFault, IsCycleOf, IsFaultedAt, IsFirstBy, IsPlain, IsPlainEnd, IsStartEnd, IsUnstarted, IsWithout, LeadsAt, MayEnd, MayStandBeside, StandsBeside, TellsFaulted, TurnsFaulted, none_yet, has_started, was_done, is_told, is_untold, stands_beside, is_kept, is_lost, out_behind, none_added, out_added, was_lost, was_told, none_told, cycle_told, plain_told}
 use Rattle.build_run.specs.Sites.{most_jobs}
 use Rattle.build_run.specs.Unmade.{Since}
 use Rattle.build_run.specs.declared.account.Account.{Account}
@@ -134,17 +134,17 @@ plain_stands o entries front fault.OutFault h = tt
 plain_stands o entries front (fault.TooLarge path size) h = tt
 plain_stands o entries front (fault.TooMany what count) h = tt
 
-cycle_stands : (o : Outset) (entries : List Entry) (front : List BuildFault) (f : BuildFault) → HasNoCycle front → IsCycleFault f →
-    StandsBeside o entries front f
-cycle_stands o entries front (fault.Missing node target) none h = absurd h
-cycle_stands o entries front (fault.Cycle paths) none h = none
-cycle_stands o entries front (fault.ActionFailed target code) none h = h
-cycle_stands o entries front (fault.TreeFault path) none h = tt
-cycle_stands o entries front (fault.StartFault target) none h = absurd h
-cycle_stands o entries front fault.StoreFault none h = tt
-cycle_stands o entries front fault.OutFault none h = tt
-cycle_stands o entries front (fault.TooLarge path size) none h = tt
-cycle_stands o entries front (fault.TooMany what count) none h = tt
+cycle_stands : (o : Outset) (entries : List Entry) (front : List BuildFault) (g : RuleGraph) (plan : Planned) (f : BuildFault) → HasNoCycle front →
+    IsCycleOf g plan f → StandsBeside o entries front f
+cycle_stands o entries front g plan (fault.Missing node target) none h = absurd h.1.1
+cycle_stands o entries front g plan (fault.Cycle paths) none h = none
+cycle_stands o entries front g plan (fault.ActionFailed target code) none h = absurd h.1.1
+cycle_stands o entries front g plan (fault.TreeFault path) none h = tt
+cycle_stands o entries front g plan (fault.StartFault target) none h = absurd h.1.1
+cycle_stands o entries front g plan fault.StoreFault none h = tt
+cycle_stands o entries front g plan fault.OutFault none h = tt
+cycle_stands o entries front g plan (fault.TooLarge path size) none h = tt
+cycle_stands o entries front g plan (fault.TooMany what count) none h = tt
 
 beside_stands : (o : Outset) (entries : List Entry) (front : List BuildFault) (f : BuildFault) → MayStandBeside o entries f →
     StandsBeside o entries front f
@@ -438,12 +438,25 @@ adds_no_cycle wanting f faults (is_lost lacking) none other = none
 adds_no_cycle wanting f faults (out_behind {more} a) none other =
     no_cycle_more more fault.OutFault (adds_no_cycle wanting f faults a none other) out_no_cycle
 
-pub ring_told : (plan : Planned) (old new : Account) → HasNoCycle old.faults.items → AddsCycle plan old new → (paths : List Path) →
-    Contains new.faults.items (fault.Cycle paths) → (old.is_ended ≡ false) × WaitForThemselves plan
-ring_told plan old new none (none_told same) paths h =
+told_one : (wanting : Bool) (f : BuildFault) (faults : List BuildFault) {more : List BuildFault} (paths : List Path) → Adds wanting f faults more →
+    HasNoCycle faults → Contains more (fault.Cycle paths) → f ≡ fault.Cycle paths
+told_one wanting f faults paths is_kept none h = elim (in_pushed faults f (fault.Cycle paths) h) [
+  | inl before ↦ absurd (none paths before)
+  | inr same ↦ same
+]
+told_one wanting f faults paths (is_lost lacking) none h = absurd (none paths h)
+told_one wanting f faults paths (out_behind {more} a) none h = elim (in_pushed more fault.OutFault (fault.Cycle paths) h) [
+  | inl before ↦ told_one wanting f faults paths a none before
+  | inr same ↦ absurd (out_no_cycle paths same)
+]
+
+pub ring_told : (g : RuleGraph) (plan : Planned) (old new : Account) → HasNoCycle old.faults.items → AddsCycle g plan old new → (paths : List Path) →
+    Contains new.faults.items (fault.Cycle paths) → (old.is_ended ≡ false) × IsCycleOf g plan (fault.Cycle paths)
+ring_told g plan old new none (none_told same) paths h =
     absurd (none paths (subst (λ (l : List BuildFault). Contains l (fault.Cycle paths)) same h))
-ring_told plan old new none (cycle_told f is going waits adds) paths h = (going, waits)
-ring_told plan old new none (plain_told f plain adds) paths h =
+ring_told g plan old new none (cycle_told f is going adds) paths h =
+    (going, subst (λ (x : BuildFault). IsCycleOf g plan x) (told_one new.memory f old.faults.items paths adds none h) is)
+ring_told g plan old new none (plain_told f plain adds) paths h =
     absurd (adds_no_cycle new.memory f old.faults.items adds none (λ other e. subst (λ (x : BuildFault). IsPlain x) e plain) paths h)
 
 -- while a build goes along none is told
@@ -459,15 +472,15 @@ module _ (o : Outset) (g : RuleGraph) (entries : List Entry) (old new : Account)
       old.faults.items (wants_on old.memory new.memory want) (λ id outcome target m named. named)
       (λ front f h so. beside_stands o entries front f so) (λ e m. m) (λ f h. h) has.are
 
-  pub closes_faulted : (plan : Planned) → AddsCycle plan old new → HasFaultsBy o g new entries
+  pub closes_faulted : (plan : Planned) → AddsCycle g plan old new → HasFaultsBy o g new entries
   closes_faulted plan (none_told same) = record {
     named = has.named;
     are = subst (λ (l : List BuildFault). AreFaultsOf (IsFirstBy g) Ends new.memory entries l) (sym same) at_last;
   }
-  closes_faulted plan (cycle_told f is going waits adds) = record {
+  closes_faulted plan (cycle_told f is going adds) = record {
     named = has.named;
     are = adds_on (IsFirstBy g) Ends (λ front. tt) new.memory f entries old.faults.items
-        (cycle_stands o entries old.faults.items f
+        (cycle_stands o entries old.faults.items g plan f
         (no_cycle (IsFirstBy g) o entries old.memory has.are) is) adds at_last;
   }
   closes_faulted plan (plain_told f is adds) = record {
@@ -539,7 +552,7 @@ module _ (o : Outset) (g : RuleGraph) (log : List Entry) where
   since_grown h account grows has = since_as o.before.log log (AreFaulted o g account) (AreFaulted o h account)
       (λ entries are. faulted_grown o g h account entries grows are) has
 
-  pub since_closed : (plan : Planned) (old new : Account) → KeepsWant old new → AddsCycle plan old new → IsFaultedAt o g old log → Since o.before.log log (HasFaultsBy o g new)
+  pub since_closed : (plan : Planned) (old new : Account) → KeepsWant old new → AddsCycle g plan old new → IsFaultedAt o g old log → Since o.before.log log (HasFaultsBy o g new)
   since_closed plan old new want adds has = since_as o.before.log log (AreFaulted o g old) (HasFaultsBy o g new)
       (λ entries are. closes_faulted o g entries old new want are plan adds) has
 

@@ -59,16 +59,16 @@ first_faulted m o g run store world account options ready =
 -- ---- as it ends
 
 -- a cycle is told, and then memory was wanting for something else
-pub cycle_then : (plan : Planned) (old mid new : Account) → SameTold mid new → AddsCycle plan old mid → AddsCycle plan old new
-cycle_then plan old mid new same (none_told e) = none_told (same.faults ∙ e)
-cycle_then plan old mid new same (cycle_told f is going waits adds) =
-    cycle_told f is going waits (adds_same mid.memory new.memory f old.faults.items mid.faults.items new.faults.items same.memory same.faults adds)
-cycle_then plan old mid new same (plain_told f is adds) =
+pub cycle_then : (g : RuleGraph) (plan : Planned) (old mid new : Account) → SameTold mid new → AddsCycle g plan old mid → AddsCycle g plan old new
+cycle_then g plan old mid new same (none_told e) = none_told (same.faults ∙ e)
+cycle_then g plan old mid new same (cycle_told f is going adds) =
+    cycle_told f is going (adds_same mid.memory new.memory f old.faults.items mid.faults.items new.faults.items same.memory same.faults adds)
+cycle_then g plan old mid new same (plain_told f is adds) =
     plain_told f is (adds_same mid.memory new.memory f old.faults.items mid.faults.items new.faults.items same.memory same.faults adds)
 
-pub cycle_end : (plan : Planned) (e : ListEnd) (old new : Account) → IsPlainEnd e → AddsEnd old e new → AddsCycle plan old new
-cycle_end plan (end.Fault f) old new plain adds = plain_told f plain adds
-cycle_end plan end.Memory old new plain same = none_told same
+pub cycle_end : (g : RuleGraph) (plan : Planned) (e : ListEnd) (old new : Account) → IsPlainEnd e → AddsEnd old e new → AddsCycle g plan old new
+cycle_end g plan (end.Fault f) old new plain adds = plain_told f plain adds
+cycle_end g plan end.Memory old new plain same = none_told same
 
 -- an end of taking leftover copies away is plain
 pub plain_take : (a b : Counts) (e : ListEnd) → HasTakeEnd a b e → IsPlainEnd e

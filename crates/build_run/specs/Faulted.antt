@@ -23,10 +23,12 @@ use Rattle.task_plan.specs.declared.want.Want.{Want}
 use Rattle.build_model.specs.Rules.{Path, Rule, Setting, Among}
 use Rattle.build_model.specs.Moments.{Job as Given}
 use Rattle.build_model.specs.Steps.{Step, IsLacking, IsMissing}
-use Rattle.build_means.specs.Builds.{Kept, Wanted}
+use Rattle.build_model.specs.Needs.{IsCycle as IsCycleOfRules}
+use Rattle.build_means.specs.Builds.{Kept, Wanted, setting_in}
 use Rattle.build_files.specs.Firsts.{first_target_of}
 use Rattle.build_files.specs.declared.end.ListEnd.{ListEnd}
 use Rattle.build_files.specs.declared.end.ListEnd.TheVariants as end
+use Rattle.scons_report.specs.Rings.{BeginWithLeast, TellsRing}
 use Rattle.turn_means.specs.Laws.{is_due_now}
 use Rattle.turn_means.specs.Recording.{IsWayTo, build_at}
 use Rattle.turn_means.specs.Standing.{Outset, IsOutset, setting_at}
@@ -34,7 +36,7 @@ use Rattle.build_run.specs.Along.{IsAlong, IsDue, IsWantedOf, standing_of}
 use Rattle.build_run.specs.Outsets.{wanted_of, HasMade, HasRun, IsReadyFor}
 use Rattle.build_run.specs.Remembering.{begun_with}
 use Rattle.build_run.specs.Sites.{most_jobs}
-use Rattle.build_run.specs.Skips.{IsNeededBy, NeedsBy}
+use Rattle.build_run.specs.Skips.{found_by, IsNeededBy}
 use Rattle.build_run.specs.Unmade.{HasNoMaker, Since}
 use Rattle.build_run.specs.Watches.{MayStart}
 use Rattle.build_run.specs.declared.account.Account.{Account}
@@ -205,20 +207,15 @@ pub record IsMissingFor (g : RuleGraph) (rule node : ℕ) (f : BuildFault) : Typ
   pub named : first_target_of g rule ≡ Some target
   pub is : f ≡ fault.Missing path target
 
--- rules wait for themselves
-abbrev pub IsCycleFault : BuildFault → Type 0
-IsCycleFault (fault.Cycle paths) = Unit {0}
-IsCycleFault other = ⊥
-
--- by a plan some rules wait for themselves
-abbrev pub WaitForThemselves : Planned → Type 0
-WaitForThemselves plan = (cycle : List RuleId) × IsCycle plan.states plan.rules plan.origins cycle
+-- a fault tells of rules that by a plan wait for themselves
+abbrev pub IsCycleOf : RuleGraph → Planned → BuildFault → Type 0
+IsCycleOf g plan f = (cycle : List RuleId) × IsCycle plan.states plan.rules plan.origins cycle × TellsRing g cycle f
 
 -- rules that wait for themselves were told of before an end came, or a plain fault was, or none
-pub data AddsCycle (plan : Planned) (old new : Account) : Type 0 where
-  none_told : new.faults.items ≡ old.faults.items → AddsCycle plan old new
-  cycle_told : (f : BuildFault) → IsCycleFault f → old.is_ended ≡ false → WaitForThemselves plan → AddsFault old f new → AddsCycle plan old new
-  plain_told : (f : BuildFault) → IsPlain f → AddsFault old f new → AddsCycle plan old new
+pub data AddsCycle (g : RuleGraph) (plan : Planned) (old new : Account) : Type 0 where
+  none_told : new.faults.items ≡ old.faults.items → AddsCycle g plan old new
+  cycle_told : (f : BuildFault) → IsCycleOf g plan f → old.is_ended ≡ false → AddsFault old f new → AddsCycle g plan old new
+  plain_told : (f : BuildFault) → IsPlain f → AddsFault old f new → AddsCycle g plan old new
 
 -- ---- sites
 
@@ -295,15 +292,24 @@ pub record HasFaultsBy (o : Outset) (g : RuleGraph) (account : Account) (entries
   pub named : AreNamedBy g entries
   pub are : AreFaultsOf (IsFirstBy g) (StandsBeside o entries) account.memory entries account.faults.items
 
--- by these steps a needed rule needs itself, directly or through others
-pub record HasRing (w : Wanted) (kept : Kept) (before after : Around) (steps : List Step) : Type 0 where
-  pub rule : Rule
-  pub needed : IsNeededBy w kept before after steps rule
-  pub itself : NeedsBy w kept before after steps rule rule
+-- rule by rule these are their first targets
+pub data HaveFirstTargets (s : Setting) : List Rule → List Path → Type 0 where
+  no_more : HaveFirstTargets s [] []
+  one_more : {rule : Rule} {target : Path} {rules : List Rule} {targets : List Path} → IsFirstTarget s rule target → HaveFirstTargets s rules targets →
+      HaveFirstTargets s (rule ∷ rules) (target ∷ targets)
 
--- where a cycle is told there is one
+-- These paths tell of a cycle by these steps: they are the first targets of needed rules of which each needs the next, and the last
+-- needs the first, in that order, from the least path on.
+pub record IsRingOf (w : Wanted) (kept : Kept) (before after : Around) (steps : List Step) (paths : List Path) : Type 0 where
+  pub rules : List Rule
+  pub named : HaveFirstTargets (setting_in w before) rules paths
+  pub cycle : IsCycleOfRules (setting_in w before).rule_of (found_by w kept before after steps) rules
+  pub needed : (rule : Rule) → Among rule rules → IsNeededBy w kept before after steps rule
+  pub least : BeginWithLeast paths
+
+-- a cycle that is told is one
 abbrev pub TellsRings : (w : Wanted) (kept : Kept) (before after : Around) → List Step → List BuildFault → Type 0
-TellsRings w kept before after steps faults = (paths : List Path) → Contains faults (fault.Cycle paths) → HasRing w kept before after steps
+TellsRings w kept before after steps faults = (paths : List Path) → Contains faults (fault.Cycle paths) → IsRingOf w kept before after steps paths
 
 -- What a build did, and that what it reports comes of its log.
 pub record HasMadeFaulted (o : Outset) (g : RuleGraph) (around : Around) (account : Account) (behind : Map) : Type 0 where
@@ -318,7 +324,7 @@ MadeFaulted m g run store world account options h new new_account new_store = m.
 -- ---- builds
 
 -- What a build did, and that what it reports comes of its log: of each job that failed or couldn't be run a fault; beside these of a rule
--- whose job couldn't be started, of one that lacks a dependency, of at most one cycle, where there is one, and of what is of no rule.
+-- whose job couldn't be started, of one that lacks a dependency, of at most one cycle, which is one as it is told, and of what is of no rule.
 pub record HasFaulted {W : Type 0} (m : Meaning W) (w : Wanted) (map : Map) (old new : W) (behind : Map) (answer : BuildEnd) : Type 0 where
   pub run : HasRun m w map old new behind answer.is_ended
   pub faults : AreFaultsOf (IsFirstOf run.runs.log.entries) (StandsBeside (begun_with w run.kept (m.counts old) run.left) run.runs.log.entries)

@@ -12,7 +12,7 @@ ghost use Rattle.build_run.specs.Causes.{BuildCauses, IsInner};
 ghost use Rattle.build_run.specs.Endings.{EndingsAreCounted, KeepsWant};
 ghost use Rattle.build_run.specs.Unrecorded.{BuildCounts, EndsAll};
 ghost use Rattle.build_run.specs.FaultTexts.{BuildTells, KeepsTold, SiteKeepsTold};
-ghost use Rattle.build_run.specs.Faulted.{AddsCycle, BuildFaults, IsCycleFault, MadeFaulted, WaitForThemselves};
+ghost use Rattle.build_run.specs.Faulted.{AddsCycle, BuildFaults, IsCycleOf, MadeFaulted};
 ghost use Rattle.build_run.specs.Forgetting.{Forgets};
 ghost use Rattle.build_run.specs.Goings.{Goes, Passes, Stays};
 ghost use Rattle.build_run.specs.Ledgers.{ledger_of, AllAccounts, Reports};
@@ -25,6 +25,7 @@ ghost use Rattle.build_run.specs.Safe.{BuildsSafely, MakesSafely, TakesSafely};
 ghost use Rattle.build_run.specs.Sites.{IsSame, SiteAccounts, most_jobs};
 ghost use Rattle.build_run.specs.Skips.{AreAtFault, AreHeldPairs, AreNamed, BuildSkips, HasHeldPairs, HoldsNeedy, MakesSkipping, TakesFaulty};
 ghost use Rattle.build_run.specs.Takes.{HasTakeCause, IsLeftAt};
+ghost use Rattle.scons_report.specs.Rings.{TellsRing};
 
 use crate::account::Account;
 use crate::end::BuildEnd;
@@ -244,7 +245,7 @@ impl<W: World, O: Sink, E: Sink> Site<'_, '_, W, O, E> {
         ensures holds { HoldsNeedy self.old.graph.now self.old.run.now.plan }
         ensures noted { KeepsNoted self.old.account.now self.new.account.now }
         ensures want { KeepsWant self.old.account.now self.new.account.now }
-        ensures lists { AddsCycle self.old.run.now.plan self.old.account.now self.new.account.now }
+        ensures lists { AddsCycle self.old.graph.now self.old.run.now.plan self.old.account.now self.new.account.now }
         ensures graph { self.new.graph.now ≡ self.old.graph.now }
     {
         self.run.plan.holds(self.graph);
@@ -282,7 +283,7 @@ fn tell_cycle<E: Sink>(
     ensures cycle { AreAtFault plan.now cycle.old.items → AreAtFault plan.now cycle.new.items }
     ensures noted { KeepsNoted account.old account.new }
     ensures want { KeepsWant account.old account.new }
-    ensures lists { AddsCycle plan.now account.old account.new }
+    ensures lists { AddsCycle graph.now plan.now account.old account.new }
 {
     plan.finishes(graph);
     if account.is_ended {
@@ -303,8 +304,7 @@ fn find_cycle(
     cycle: &mut Vec<RuleId>,
 ) -> Result<Option<BuildFault>, ListEnd>
     ensures inner { IfOk result (λ found. IfSome found IsInner) }
-    ensures told { IfOk result (λ found. IfSome found IsCycleFault) }
-    ensures real { IfOk result (λ found. IfSome found (λ fault. WaitForThemselves plan.now)) }
+    ensures told { IfOk result (λ found. IfSome found (IsCycleOf graph.now plan.now)) }
     ensures quiet { IsQuiet result }
     ensures none { IfOk result (λ found. IfNone found (HasNoCycle plan.now.states plan.now.rules plan.now.origins)) }
     ensures cycle { AreAtFault plan.now cycle.old.items → AreAtFault plan.now cycle.new.items }
@@ -319,7 +319,7 @@ fn find_cycle(
 /// The fault of rules that wait for themselves.
 fn cycle_of(alloc: Global, graph: &Graph, rules: &[RuleId]) -> Result<BuildFault, ListEnd>
     ensures inner { IfOk result IsInner }
-    ensures told { IfOk result IsCycleFault }
+    ensures told { IfOk result (TellsRing graph.now rules.now) }
     ensures quiet { IsQuiet result }
 {
     match cycle_fault(alloc, graph, rules)? {

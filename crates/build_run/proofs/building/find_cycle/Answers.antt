@@ -25,8 +25,8 @@ returns-clause-cycle c = λ a.
     (more_at_fault plan c.args.cycle.now.items c.as_slice.result.now a
     (cycle_at_fault plan c.as_slice.result.now (subst (λ (cycle : List RuleId). IsCycle plan.states plan.rules plan.origins cycle) (sym c.as_slice.ensures) found)))
 
-pub returns-clause-real : goal.returns-clause-real
-returns-clause-real c =
+pub returns-clause-told : goal.returns-clause-told
+returns-clause-told c =
     let plan = c.args.plan.now in
     let found = subst (λ (o : Option (List RuleId)). IfSome o (λ cycle. IsCycle plan.states plan.rules plan.origins cycle)) c.in-Some.is c.in_ok-rules.ensures.real in
-    (c.as_slice.result.now, subst (λ (cycle : List RuleId). IsCycle plan.states plan.rules plan.origins cycle) (sym c.as_slice.ensures) found)
+    (c.as_slice-2.result.now, subst (λ (cycle : List RuleId). IsCycle plan.states plan.rules plan.origins cycle) (sym c.as_slice-2.ensures) found, c.in_ok-cycle_of.ensures.told)

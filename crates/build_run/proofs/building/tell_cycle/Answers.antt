@@ -30,12 +30,11 @@ returns-then-account-clause-lists g c = none_told refl
 pub returns-in-Ok-Some-clause-lists : goal.returns-in-Ok-Some-clause-lists
 returns-in-Ok-Some-clause-lists g c =
     let is = rw c.in-Ok-Some.field-0-is at c.in-Ok-Some.ensures.told in
-    let real = rw c.in-Ok-Some.field-0-is at c.in-Ok-Some.ensures.real in
-    cycle_told c.in-Ok-Some.fault is c.if-account.false real c.report.ensures.lists
+    cycle_told c.in-Ok-Some.fault is c.if-account.false c.report.ensures.lists
 
 pub returns-in-Ok-None-clause-lists : goal.returns-in-Ok-None-clause-lists
 returns-in-Ok-None-clause-lists g c = none_told refl
 
 pub returns-in-Err-clause-lists : goal.returns-in-Err-clause-lists
 returns-in-Err-clause-lists g c =
-    cycle_end c.args.plan.now c.in-Err.end c.args.account.now c.end.new.self (plain_inside c.in-Err.end c.in-Err.ensures.quiet) c.end.ensures.lists
+    cycle_end c.args.graph.now c.args.plan.now c.in-Err.end c.args.account.now c.end.new.self (plain_inside c.in-Err.end c.in-Err.ensures.quiet) c.end.ensures.lists

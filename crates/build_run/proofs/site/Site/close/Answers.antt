@@ -45,4 +45,4 @@ returns-in-Ok-clause-lists g c = c.tell_cycle.ensures.lists
 
 pub returns-clause-lists : goal.returns-clause-lists
 returns-clause-lists g c =
-    cycle_then c.args.self.now.run.now.plan c.args.self.now.account.now c.tell_cycle.new.account c.want_memory.new.self c.want_memory.ensures.same c.tell_cycle.ensures.lists
+    cycle_then c.args.self.now.graph.now c.args.self.now.run.now.plan c.args.self.now.account.now c.tell_cycle.new.account c.want_memory.new.self c.want_memory.ensures.same c.tell_cycle.ensures.lists
