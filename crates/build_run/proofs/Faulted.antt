@@ -136,11 +136,11 @@ plain_stands o entries front (fault.TooMany what count) h = tt
 
 cycle_stands : (o : Outset) (entries : List Entry) (front : List BuildFault) (g : RuleGraph) (plan : Planned) (f : BuildFault) → HasNoCycle front →
     IsCycleOf g plan f → StandsBeside o entries front f
-cycle_stands o entries front g plan (fault.Missing node target) none h = absurd h.1.1
+cycle_stands o entries front g plan (fault.Missing node target) none h = absurd h.2
 cycle_stands o entries front g plan (fault.Cycle paths) none h = none
-cycle_stands o entries front g plan (fault.ActionFailed target code) none h = absurd h.1.1
+cycle_stands o entries front g plan (fault.ActionFailed target code) none h = absurd h.2
 cycle_stands o entries front g plan (fault.TreeFault path) none h = tt
-cycle_stands o entries front g plan (fault.StartFault target) none h = absurd h.1.1
+cycle_stands o entries front g plan (fault.StartFault target) none h = absurd h.2
 cycle_stands o entries front g plan fault.StoreFault none h = tt
 cycle_stands o entries front g plan fault.OutFault none h = tt
 cycle_stands o entries front g plan (fault.TooLarge path size) none h = tt

@@ -205,9 +205,9 @@ module _ (o : Outset) (outset : IsOutset o) (jobs : List Given) (s : Standing) (
 
   pub ring : (paths : List Path) → IsCycleOf s.graph s.plan (fault.Cycle paths) → IsRingOf o.wanted o.kept o.before s.around past paths
   ring paths h =
-      let told : IsRingTold s.graph h.0 paths = h.1.1 in
+      let told : IsRingTold s.graph h.0 paths = h.2 in
       ring_of (told.back ++ told.front) paths
-      (turned plan told.front told.back (subst (λ (l : List RuleId). IsRing plan l) told.ring (as_ring plan h.0 h.1.0))) told.named told.least
+      (turned plan told.front told.back (subst (λ (l : List RuleId). IsRing plan l) told.ring (as_ring plan h.0 h.1))) told.named told.least
 
 module _ {W O E : Type 0} (m : Meaning W) (o : Outset) (outset : IsOutset o) (mid : Site W O E) (after : Account)
     (there : IsAtEnd m o mid) (rest : (m.around mid.world.now).running ≡ [])
