@@ -19,6 +19,7 @@ pub mod RunLines
 pub mod Sinks
 pub mod Steps
 pub mod Stopping
+pub mod Standing
 pub mod Stops
 pub mod Texts
 pub mod Told

@@ -5,6 +5,7 @@ ghost use Rattle.rule_graph.specs.Rules.{are_below};
 ghost use Rattle.scons_base.specs.Normal.{is_top, is_root};
 ghost use Rattle.scons_top.specs.Below.{AddsTargets, AreBelow, AreInOrder, AreListed, begins_below, KnowsTargets, nodes_below, StartsAt};
 ghost use Rattle.scons_top.specs.Requested.{AddsNodes, GivesNodes, HaveNodes, KnowsNodes};
+ghost use Rattle.scons_top.specs.Standing.{AddsMember, AreMembers, each_node};
 
 use indexmap::IndexSet;
 use rule_graph::Graph;
@@ -36,6 +37,7 @@ impl Below {
         ensures knows { KnowsNodes graph.now self.old → KnowsNodes graph.now self.new }
         ensures nodes { KnowsNodes graph.now self.old → GivesNodes graph.now result }
         ensures lists { KnowsTargets graph.now self.old → KnowsTargets graph.now self.new }
+        ensures stand { KnowsTargets graph.now self.old → IfOk result (λ nodes. AreMembers graph.now (each_node members.now) nodes.items) }
     {
         let mut met = IndexSet::new(alloc);
         let mut nodes = Vec::new(alloc);
@@ -60,6 +62,7 @@ impl Below {
         ensures knows { KnowsNodes graph.now self.old → KnowsNodes graph.now self.new }
         ensures nodes { KnowsNodes graph.now self.old → AddsNodes graph.now nodes.old nodes.new }
         ensures lists { KnowsTargets graph.now self.old → KnowsTargets graph.now self.new }
+        ensures adds { KnowsTargets graph.now self.old → OnOk result (AddsMember graph.now member nodes.old.items nodes.new.items) }
     {
         if graph.rule_of(member).is_some() {
             nodes.push(member)?;

@@ -11,6 +11,7 @@ ghost use Rattle.scons_top.specs.Finding.{AreOf, CountsOrAbove, Finds, FindsPath
 ghost use Rattle.scons_top.specs.Foreign.{StepByBytes, StepOnNone, StopsByBytes};
 ghost use Rattle.scons_top.specs.Naming.{HasGrown};
 ghost use Rattle.scons_top.specs.Requested.{AsksForNodes, AskForNodes, HasMore, KnowsNodes};
+ghost use Rattle.scons_top.specs.Standing.{BelowOf, FoundStand, IsOneOf, StandsUnlessLeft, WordStands, WordsStand};
 ghost use Rattle.scons_top.specs.Stops.{WorldStep, InnerStep, IsInside};
 ghost use Rattle.scons_top.specs.Watching.{Watches};
 ghost use Rattle.world_api.specs.Banks.{Banks};
@@ -52,6 +53,7 @@ pub(crate) fn requests_of<W: World>(
     ensures bytes { StepByBytes W.meaning world.old world.new result }
     ensures names { FindsWords W.meaning graph.old (asked_by graph.old words.now) world.new result }
     ensures grown { GrowsByPaths graph.old graph.new }
+    ensures stand { WordsStand W.meaning graph.old graph.new world.new result }
     ensures words { IfOk result (λ requests. words_asked requests.items ≡ asked_by graph.old words.now) }
     ensures nodes { IfOk result (λ requests. AskForNodes graph.new requests.items) }
 {
@@ -76,6 +78,7 @@ fn requests_for<W: World>(
     ensures bytes { StepByBytes W.meaning world.old world.new result }
     ensures names { FindsWords W.meaning graph.old asked.now world.new result }
     ensures grown { GrowsByPaths graph.old graph.new }
+    ensures stand { WordsStand W.meaning graph.old graph.new world.new result }
     ensures words { IfOk result (λ requests. words_asked requests.items ≡ asked.now) }
     ensures nodes { IfOk result (λ requests. AskForNodes graph.new requests.items) }
 {
@@ -141,6 +144,7 @@ fn request_of<W: World>(
     ensures grown { HasGrown graph.old graph.new }
     ensures of { AreOf W.meaning graph.old world.old lookups.old → AreOf W.meaning graph.old world.new lookups.new }
     ensures names { AreOf W.meaning graph.old world.old lookups.old → FindsWord W.meaning graph.old word.now world.new result }
+    ensures stands { AreOf W.meaning graph.old world.old lookups.old → WordStands W.meaning graph.old graph.new word.now world.new result }
 {
     graph.laws();
     if let Some(members) = graph.alias(word.as_str()) {
@@ -178,6 +182,7 @@ fn file_request<W: World>(
     ensures grown { HasGrown graph.old graph.new }
     ensures of { AreOf W.meaning graph.old world.old lookups.old → AreOf W.meaning graph.old world.new lookups.new }
     ensures finds { AreOf W.meaning graph.old world.old lookups.old → FindsPath W.meaning graph.old path.now world.new result }
+    ensures stands { AreOf W.meaning graph.old world.old lookups.old → FoundStand W.meaning graph.old graph.new path.now world.new result }
 {
     match kind_of(world, path)? {
         Kind::File => plain_request(alloc, world, graph, lookups, word, path),
@@ -207,6 +212,7 @@ fn plain_request<W: World>(
     ensures of { AreOf W.meaning graph.old world.old lookups.old → AreOf W.meaning graph.old world.new lookups.new }
     ensures finds { AreOf W.meaning graph.old world.old lookups.old →
         Finds W.meaning (CountsOrAbove graph.old path.now) (IsLeftAlone graph.old path.now) world.new result }
+    ensures stands { AreOf W.meaning graph.old world.old lookups.old → StandsUnlessLeft W.meaning graph.old graph.new path.now world.new result }
 {
     if is_left_over(alloc, world, graph, &mut lookups.view, path)? {
         return absent_request(alloc, graph, lookups, word, path);
@@ -230,6 +236,7 @@ fn absent_request(
     ensures nodes { KnowsNodes graph.now lookups.old.below → IfOk result (AsksForNodes graph.now) }
     ensures lists { KnowsTargets graph.now lookups.old.below → KnowsTargets graph.now lookups.new.below }
     ensures view { lookups.new.view ≡ lookups.old.view }
+    ensures below { KnowsTargets graph.now lookups.old.below → IfOk result (BelowOf graph.now path.now) }
     ensures finds { KnowsTargets graph.now lookups.old.below → FoundOrUnknown (has_below graph.now path.now ≡ true) (has_below graph.now path.now ≡ false) result }
 {
     let nodes = lookups.below.targets_below(alloc, graph, path)?;
@@ -254,6 +261,7 @@ fn node_request(
     ensures grown { HasGrown graph.old graph.new }
     ensures word { IfOk result (λ request. request.word ≡ word.now) }
     ensures nodes { IfOk result (AsksForNodes graph.new) }
+    ensures one { IfOk result (IsOneOf graph.new path.now) }
 {
     let nodes = vec![in alloc; graph.intern(path)?]?;
     Ok(Request {

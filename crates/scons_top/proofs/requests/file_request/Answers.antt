@@ -10,6 +10,12 @@ use Rattle.scons_top.proofs.Finding.{of_as, of_on, path_absent, path_file, recor
 use Rattle.scons_top.proofs.Grown.{grown_here}
 use Rattle.scons_top.proofs.Watching.{watches_on}
 use Rattle.scons_top.proofs.Causing.{look_exit, inner_step, world_back, world_memory}
+use Rattle.scons_top.proofs.Standing.{bare_found, file_found, if_more, if_none}
+use Rattle.scons_top.specs.Standing.{BelowOf}
+use Rattle.scons_top.specs.Below.{AreBelow}
+use Rattle.scons_top.specs.declared.requests.Request.{Request}
+use Rattle.scons_base.specs.declared.ids.NodeId.{NodeId}
+use Rattle.std.proofs.Common.{Vec, Global}
 use Rattle.scons_top.proofs.requests.file_request.Goals as goal
 
 pub returns-in_err-kind_of-clause-step : goal.returns-in_err-kind_of-clause-step
@@ -126,3 +132,32 @@ pub returns-in-Absent-clause-finds : goal.returns-in-Absent-clause-finds
 returns-in-Absent-clause-finds g c = λ h.
     path_absent g.W.Disk.meaning c.args.graph.now c.args.path.now c.kind_of.new.world c.absent_request.result (λ t. sym (c.in_ok-kind_of.ensures.kind t) ∙ c.in-Absent.is)
     (c.absent_request.ensures.finds h.targets)
+
+pub returns-in_err-kind_of-clause-stands : goal.returns-in_err-kind_of-clause-stands
+returns-in_err-kind_of-clause-stands g c = λ h rest. if_none _ c.from_residual.result _ c.from_residual.ensures.1
+
+pub returns-in-File-clause-stands : goal.returns-in-File-clause-stands
+returns-in-File-clause-stands g c = λ h.
+    let m = g.W.Disk.meaning in
+    file_found m c.args.graph.now c.plain_request.new.graph c.args.path.now c.kind_of.new.world c.plain_request.new.world c.plain_request.result c.plain_request.ensures.watches.looks
+    (λ t. sym (c.in_ok-kind_of.ensures.kind t) ∙ c.in-File.is)
+    (c.plain_request.ensures.stands (of_on m c.args.graph.now c.args.world.now c.kind_of.new.world c.args.lookups.now c.kind_of.ensures.watches.looks h))
+
+pub returns-in_err-targets_below-in-Dir-clause-stands : goal.returns-in_err-targets_below-in-Dir-clause-stands
+returns-in_err-targets_below-in-Dir-clause-stands g c = λ h rest. let r = c.from_residual-in_err-targets_below-in-Dir in if_none _ r.result _ r.ensures.1
+
+pub returns-in_ok-targets_below-in-Dir-clause-stands : goal.returns-in_ok-targets_below-in-Dir-clause-stands
+returns-in_ok-targets_below-in-Dir-clause-stands g c = λ h.
+    let graph = c.args.graph.now in
+    let p = c.args.path.now in
+    let below = c.in_ok-targets_below-in-Dir.ensures.below h.targets in
+    bare_found g.W.Disk.meaning graph graph p c.kind_of.new.world c.made.result
+    (λ t is. let never = sym (sym (c.in_ok-kind_of.ensures.kind t) ∙ c.in-Dir.is) ∙ is in cc)
+    (if_more _ (BelowOf graph p) c.made.result (λ (request : Request) is. subst (λ (nodes : Vec NodeId Global). AreBelow graph p nodes.items) (sym is) below) c.made.ensures.nodes)
+
+pub returns-in-Absent-clause-stands : goal.returns-in-Absent-clause-stands
+returns-in-Absent-clause-stands g c = λ h.
+    let graph = c.args.graph.now in
+    let p = c.args.path.now in
+    bare_found g.W.Disk.meaning graph graph p c.kind_of.new.world c.absent_request.result
+    (λ t is. let never = sym (sym (c.in_ok-kind_of.ensures.kind t) ∙ c.in-Absent.is) ∙ is in cc) (c.absent_request.ensures.below h.targets)

@@ -9,6 +9,11 @@ use Rattle.scons_top.proofs.Opening.{bytes_exit}
 use Rattle.scons_top.proofs.Asking.{asked_exit, stops_weaker, ends_weaker, none_as}
 use Rattle.scons_top.specs.Asked.{IsWord, IsWordIn, NamesNone}
 use Rattle.scons_top.proofs.Causing.{inner_step, world_exit}
+use Rattle.scons_top.proofs.Standing.{if_more, if_none}
+use Rattle.scons_top.specs.Standing.{BelowOf, IsOneOf}
+use Rattle.scons_top.specs.Naming.{IsLeftOver}
+use Rattle.scons_top.specs.declared.requests.Request.{Request}
+use Rattle.std.proofs.Common.{◌⊎◌}
 use Rattle.scons_top.proofs.requests.plain_request.Goals as goal
 
 pub returns-in_err-is_left_over-clause-step : goal.returns-in_err-is_left_over-clause-step
@@ -86,3 +91,29 @@ returns-clause-finds g c = λ h rest.
     let records = image_in (m.seen c.is_left_over.new.world) in
     let counts = (c.in_ok-is_left_over.ensures.left h.records rest).not c.if-branch.false in
     silent_made (CountsOrAbove graph p around records) (IsLeftAlone graph p around records) c.node_request.result c.node_request.ensures.stops (inl counts)
+
+pub returns-in_err-is_left_over-clause-stands : goal.returns-in_err-is_left_over-clause-stands
+returns-in_err-is_left_over-clause-stands g c = λ h rest. if_none _ c.from_residual.result _ c.from_residual.ensures.1
+
+pub returns-then-branch-clause-stands : goal.returns-then-branch-clause-stands
+returns-then-branch-clause-stands g c = λ h rest.
+    let m = g.W.Disk.meaning in
+    let graph = c.args.graph.now in
+    let p = c.args.path.now in
+    let around = m.around c.is_left_over.new.world in
+    let records = image_in (m.seen c.is_left_over.new.world) in
+    let left = (c.in_ok-is_left_over.ensures.left h.records rest).so c.if-branch.true in
+    if_more (BelowOf graph p) (λ (request : Request). (IsLeftOver graph around records p → ⊥) × IsOneOf graph p request ⊎ IsLeftOver graph around records p × BelowOf graph p request) c.absent_request.result
+    (λ request below. inr (left, below)) (c.absent_request.ensures.below h.targets)
+
+pub returns-clause-stands : goal.returns-clause-stands
+returns-clause-stands g c = λ h rest.
+    let m = g.W.Disk.meaning in
+    let graph = c.args.graph.now in
+    let new = c.node_request.new.graph in
+    let p = c.args.path.now in
+    let around = m.around c.is_left_over.new.world in
+    let records = image_in (m.seen c.is_left_over.new.world) in
+    let counts = (c.in_ok-is_left_over.ensures.left h.records rest).not c.if-branch.false in
+    if_more (IsOneOf new p) (λ (request : Request). (IsLeftOver graph around records p → ⊥) × IsOneOf new p request ⊎ IsLeftOver graph around records p × BelowOf graph p request) c.node_request.result
+    (λ request one. inl (counts, one)) c.node_request.ensures.one

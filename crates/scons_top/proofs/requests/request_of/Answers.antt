@@ -18,6 +18,9 @@ use Rattle.std.proofs.Common.{rules, ◌≡◌, ◌∙◌, false, ap, refl, subs
 use Rattle.std.specs.Option.{option_copied}
 use Rattle.scons_top.proofs.Watching.{watches_on}
 use Rattle.scons_top.proofs.Causing.{world_back, world_exit, look_exit, inner_step, world_memory}
+use Rattle.std.proofs.Common.{Vec, Global}
+use Rattle.scons_base.specs.declared.ids.NodeId.{NodeId}
+use Rattle.scons_top.proofs.Standing.{alias_stands, if_more, if_none, path_stands, rule_stands}
 use Rattle.scons_top.proofs.requests.request_of.Goals as goal
 
 pub check_members-requires : goal.check_members-requires
@@ -217,3 +220,46 @@ returns-in_err-path-clause-grown g c = grown_here c.args.graph.now
 
 pub returns-in_err-has_rule-clause-grown : goal.returns-in_err-has_rule-clause-grown
 returns-in_err-has_rule-clause-grown g c = grown_here c.args.graph.now
+
+pub returns-in_err-nodes-clause-stands : goal.returns-in_err-nodes-clause-stands
+returns-in_err-nodes-clause-stands g c = λ h rest. if_none _ c.from_residual.result _ c.from_residual.ensures.1
+
+pub returns-in_err-check_members-clause-stands : goal.returns-in_err-check_members-clause-stands
+returns-in_err-check_members-clause-stands g c = λ h rest. let r = c.from_residual-in_err-check_members in if_none _ r.result _ r.ensures.1
+
+pub returns-in-Some-clause-stands : goal.returns-in-Some-clause-stands
+returns-in-Some-clause-stands g c = λ h.
+    let graph = c.args.graph.now in
+    let word = c.args.word.now in
+    let some = alias_named graph word c.as_str.result.now c.in-Some.members.now c.as_str.ensures (sym c.alias.ensures.members ∙ ap option_copied c.in-Some.is) in
+    alias_stands g.W.Disk.meaning graph word c.in-Some.members.now c.check_members.new.world c.made.result c.in_ok-nodes.nodes.items some (c.in_ok-nodes.ensures.stand h.targets) 
+    (if_more _ _ c.made.result (λ request is. ap (λ (v : Vec NodeId Global). v.items) is) c.made.ensures.nodes)
+
+pub returns-in_err-path-clause-stands : goal.returns-in_err-path-clause-stands
+returns-in_err-path-clause-stands g c = λ h rest. let r = c.from_residual-in_err-path in if_none _ r.result _ r.ensures.1
+
+pub returns-in_err-has_rule-clause-stands : goal.returns-in_err-has_rule-clause-stands
+returns-in_err-has_rule-clause-stands g c = λ h rest. let r = c.from_residual-in_err-has_rule in if_none _ r.result _ r.ensures.1
+
+pub returns-then-branch-clause-stands : goal.returns-then-branch-clause-stands
+returns-then-branch-clause-stands g c = λ h.
+    let m = g.W.Disk.meaning in
+    let graph = c.args.graph.now in
+    let word = c.args.word.now in
+    let none : members_of graph.aliases word ≡ None = search rules in
+    let read = subst (IsReadAs word) c.in-Some-2.is c.in_ok-path.ensures in
+    let p = c.in_ok-path-2.path in
+    rule_stands m graph c.node_request.new.graph p word c.has_rule.new.world c.node_request.result none (spelled_word graph word _ _ p read.0 c.top.ensures c.in_ok-path-2.ensures.path) read.1
+    (λ t. subst (TellsRule graph (m.around c.has_rule.new.world) p) c.if-branch.true (c.in_ok-has_rule.ensures.rule t)) c.node_request.ensures.one
+
+pub returns-clause-stands : goal.returns-clause-stands
+returns-clause-stands g c = λ h.
+    let m = g.W.Disk.meaning in
+    let graph = c.args.graph.now in
+    let word = c.args.word.now in
+    let none : members_of graph.aliases word ≡ None = search rules in
+    let read = subst (IsReadAs word) c.in-Some-2.is c.in_ok-path.ensures in
+    let p = c.in_ok-path-2.path in
+    path_stands m graph c.file_request.new.graph p word c.has_rule.new.world c.file_request.new.world c.file_request.result none (spelled_word graph word _ _ p read.0 c.top.ensures c.in_ok-path-2.ensures.path) read.1
+    c.file_request.ensures.watches.looks (λ t. subst (TellsRule graph (m.around c.has_rule.new.world) p) c.if-branch.false (c.in_ok-has_rule.ensures.rule t))
+    (c.file_request.ensures.stands (of_on m graph c.args.world.now c.has_rule.new.world c.args.lookups.now c.has_rule.ensures.watches.looks h))
