@@ -24,10 +24,16 @@ use Rattle.build_means.specs.Rules.{IsReading}
 use Rattle.build_means.proofs.Growing.{get_front}
 use Rattle.build_means.proofs.Lists.{all_there, any_there, first_place, none_some, some_same}
 use Rattle.build_files.specs.Leftovers.{copied_from, declared_for, has_rule, is_before, is_copied, is_declared, is_made, is_source, source_among, stands, IsLeftover, IsOfCopy}
-use Rattle.scons_top.specs.Below.{has_below, targets_in, with_paths, AreListed}
+use Rattle.scons_top.specs.Below.{has_below, targets_in, with_paths, AreBelow, AreListed}
 use Rattle.scons_top.specs.Naming.{HasGrown, IsFirstUnknown, IsLeftOver, IsThere, NamesNothing, NamesSome}
 use Rattle.scons_top.specs.Naming.IsThere.{made, copied, file, dir, above}
 use Rattle.scons_top.specs.Naming.NamesSome.{alias, path}
+use Rattle.scons_top.specs.Standing.{AreMembers, IsMember, IsNode, StandsFor, each_node}
+use Rattle.scons_top.specs.Standing.AreMembers as members
+use Rattle.scons_top.specs.Standing.IsMember as member
+use Rattle.scons_top.specs.Standing.IsNode as node
+use Rattle.scons_top.specs.Standing.PathStandsFor as path'
+use Rattle.scons_top.specs.Standing.StandsFor as stands
 
 -- the path of a number
 numbered : (nodes : List (List ℕ)) (p : List ℕ) (n : ℕ) → number_of nodes p ≡ Some n → slice_get nodes n ≡ Some p
@@ -186,6 +192,43 @@ module _ (g : RuleGraph) (nodes more : List (List ℕ)) (is : nodes ≡ g.nodes 
       by_alias None none = λ is_one there. none is_one (there_on around map (spelling g.top word) there)
       by_alias (Some members) h = h
 
+  -- what words stand for
+  below_before : (p : List ℕ) (found : List NodeId) → AreBelow grown p found → AreBelow g p found
+  below_before p found h = record {
+    targets = h.targets;
+    listed = record {
+      all = subst (λ (all : List (List ℕ × NodeId)). IsPermutation all h.targets) (listed_same g.rules (λ i r at. (reading.named.each_rule i r at).targets)) h.listed.all;
+      order = h.listed.order;
+    };
+    those = h.those;
+  }
+
+  node_before : (around : Around) (map : Map) (p : List ℕ) → IsNode grown around map p → IsNode g around map p
+  node_before around map p (node.made one) = node.made (sym (made_same p) ∙ one)
+  node_before around map p (node.copied source from) = node.copied source (sym (copied_same (length g.rules) around p) ∙ from)
+  node_before around map p (node.file counted) = node.file (counted.0, λ left. counted.1 (left_over_on around map p left))
+
+  node_behind : (around : Around) (map : Map) (p : List ℕ) → IsNode g around map p → IsNode grown around map p
+  node_behind around map p (node.made one) = node.made (made_same p ∙ one)
+  node_behind around map p (node.copied source from) = node.copied source (copied_same (length g.rules) around p ∙ from)
+  node_behind around map p (node.file counted) = node.file (counted.0, λ left. counted.1 (left_over_back around map p left))
+
+  module _ (numbers : List (List ℕ)) where
+    member_before : (m : NodeId) (found : List NodeId) → IsMember grown numbers m found → IsMember g numbers m found
+    member_before m found (member.ruled number at) = member.ruled number at
+    member_before m found (member.dir p below none at are some) = member.dir p below none at (below_before p below are) some
+    member_before m found (member.other p none at are) = member.other p none at (below_before p [] are)
+
+    members_before : (members found : List NodeId) → AreMembers grown numbers members found → AreMembers g numbers members found
+    members_before members found members.no_member = members.no_member
+    members_before members found (members.one_more {front = front} {found = first} {more = last} m are is) = members.one_more m (members_before front first are) (member_before m last is)
+
+    stands_before : (around : Around) (map : Map) (word : List ℕ) (found : List NodeId) → StandsFor grown around map numbers word found → StandsFor g around map numbers word found
+    stands_before around map word found (stands.alias members some are) = stands.alias members some (members_before (each_node members) found are)
+    stands_before around map word found (stands.of_path none is_one (path'.node is one)) = stands.of_path none is_one (path'.node (node_before around map (spelling g.top word) is) one)
+    stands_before around map word found (stands.of_path none is_one (path'.above bare below)) =
+        stands.of_path none is_one (path'.above (λ is. bare (node_behind around map (spelling g.top word) is)) (below_before (spelling g.top word) found below))
+
 module _ (g h : RuleGraph) (grown_to : HasGrown g h) (before : IsReading g) (apart : AreApart h.nodes) where
   pub names_back : (around : Around) (map : Map) (word : List ℕ) → NamesSome h around map word → NamesSome g around map word
   names_back around map word names =
@@ -206,6 +249,11 @@ module _ (g h : RuleGraph) (grown_to : HasGrown g h) (before : IsReading g) (apa
 
   pub listed_back : (targets : List (List ℕ × NodeId)) → AreListed h targets → AreListed g targets
   listed_back targets listed = record { all = subst (λ (all : List (List ℕ × NodeId)). IsPermutation all targets) targets_same listed.all; order = listed.order }
+
+module _ (g h : RuleGraph) (grown_to : HasGrown g h) (before : IsReading g) (apart : AreApart h.nodes) where
+  pub stands_back : (around : Around) (map : Map) (numbers : List (List ℕ)) (word : List ℕ) (found : List NodeId) → StandsFor h around map numbers word found → StandsFor g around map numbers word found
+  stands_back around map numbers word found stand =
+      stands_before g h.nodes grown_to.more grown_to.nodes before apart numbers around map word found (subst (λ (k : RuleGraph). StandsFor k around map numbers word found) grown_to.same stand)
 
 pub grown_here : (g : RuleGraph) → HasGrown g g
 grown_here g = record { same = refl; more = []; nodes = sym (append-nil g.nodes) }

@@ -28,12 +28,14 @@ use Rattle.scons_top.specs.Finding.{TellsRule}
 use Rattle.scons_top.specs.Naming.{HasGrown, IsLeftOver}
 use Rattle.scons_top.specs.Standing.{AddsMember, AllStand, AreMembers, BelowOf, FoundStand, IsCounted, IsMember, IsNode, IsOne, IsOneOf, PathStandsFor, RequestStands, StandsFor, StandsIn, StandsUnlessLeft, WordStands, each_node, with_node}
 use Rattle.scons_top.specs.Standing.AreMembers.{no_member, one_more}
-use Rattle.scons_top.specs.Standing.IsMember as member
+use Rattle.scons_top.specs.Standing.IsMember.{ruled, dir, other}
 use Rattle.scons_top.specs.Standing.IsNode.{made, copied, file}
 use Rattle.scons_top.specs.Standing.PathStandsFor.{node, above}
 use Rattle.scons_top.specs.Standing.StandsFor as stands
 use Rattle.scons_top.specs.declared.requests.Request.{Request}
+use Rattle.build_files.proofs.Left.{rest_before}
 use Rattle.scons_top.proofs.Finding.{moved}
+use Rattle.scons_top.proofs.Grown.{stands_back}
 
 -- ---- results
 
@@ -47,8 +49,8 @@ if_none P (Err e) Q is = tt
 
 -- ---- members
 
-pub members_more : (g : RuleGraph) (front nodes new : List NodeId) (m : NodeId) → AreMembers g front nodes → AddsMember g m nodes new → AreMembers g (front ++ m ∷ []) new
-members_more g front nodes new m are adds = subst (AreMembers g (front ++ m ∷ [])) (sym adds.2) (one_more m are adds.1)
+pub members_more : (g : RuleGraph) (front found new : List NodeId) (m : NodeId) → AreMembers g g.nodes front found → AddsMember g m found new → AreMembers g g.nodes (front ++ m ∷ []) new
+members_more g front found new m are adds = subst (AreMembers g g.nodes (front ++ m ∷ [])) (sym adds.2) (one_more m are adds.1)
 
 -- each once, as one more is met
 pub once_more : (members : List NodeId) (i : ℕ) (d m : NodeId) → i < length members → m ≡ get_or members i d → each_node (take (i + 1) members) ≡ with_node (each_node (take i members)) m
@@ -109,7 +111,7 @@ module _ {W E : Type 0} (m : Meaning W) (g k : RuleGraph) (path : List ℕ) wher
       let rules = moved m (λ x y. TellsRule g x path false) a b looks rest (rule (looks.told.told rest.0)) in
       if_more (λ (request : Request). IsCounted g around records path × IsOneOf k path request ⊎ (IsCounted g around records path → ⊥) × BelowOf g path request)
       (λ (request : Request). StandsFor g around records k.nodes word request.nodes.items) r
-      (λ request found. stands.path none is_one (subst (λ (p : List ℕ). PathStandsFor g around records k.nodes p request.nodes.items) at (found_stands g k around records path request rules found))) (h rest)
+      (λ request found. stands.of_path none is_one (subst (λ (p : List ℕ). PathStandsFor g around records k.nodes p request.nodes.items) at (found_stands g k around records path request rules found))) (h rest)
 
   pub rule_stands : (word : List ℕ) (a : W) (r : Result Request E) → members_of g.aliases word ≡ None → path ≡ spelling g.top word → is_path word ≡ true
       → (m.tells a → TellsRule g (m.around a) path true) → IfOk r (IsOneOf k path) → WordStands m g k word a r
@@ -117,10 +119,51 @@ module _ {W E : Type 0} (m : Meaning W) (g k : RuleGraph) (path : List ℕ) wher
       let around = m.around a in
       let records = image_in (m.seen a) in
       if_more (IsOneOf k path) (λ (request : Request). StandsFor g around records k.nodes word request.nodes.items) r
-      (λ request one. stands.path none is_one (subst (λ (p : List ℕ). PathStandsFor g around records k.nodes p request.nodes.items) at (made_stands g k around records path request (rule rest.0) one))) h
+      (λ request one. stands.of_path none is_one (subst (λ (p : List ℕ). PathStandsFor g around records k.nodes p request.nodes.items) at (made_stands g k around records path request (rule rest.0) one))) h
 
 pub alias_stands : {W E : Type 0} (m : Meaning W) (g : RuleGraph) (word : List ℕ) (members : List NodeId) (a : W) (r : Result Request E) (nodes : List NodeId) → members_of g.aliases word ≡ Some members
-    → AreMembers g (each_node members) nodes → IfOk r (λ request. request.nodes.items ≡ nodes) → WordStands m g g word a r
+    → AreMembers g g.nodes (each_node members) nodes → IfOk r (λ request. request.nodes.items ≡ nodes) → WordStands m g g word a r
 alias_stands m g word members a r nodes some are h = λ rest.
     if_more (λ (request : Request). request.nodes.items ≡ nodes) (λ (request : Request). StandsFor g (m.around a) (image_in (m.seen a)) g.nodes word request.nodes.items) r
-    (λ request is. stands.alias members some (subst (AreMembers g (each_node members)) (sym is) are)) h
+    (λ request is. stands.alias members some (subst (AreMembers g g.nodes (each_node members)) (sym is) are)) h
+
+-- ---- words in turn
+
+-- where more paths get numbers
+module _ (g : RuleGraph) (around : Around) (map : Map) (nodes more : List (List ℕ)) where
+  member_grows : (m : NodeId) (found : List NodeId) → IsMember g nodes m found → IsMember g (nodes ++ more) m found
+  member_grows m found (ruled number at) = ruled number at
+  member_grows m found (dir path below none at are some) = dir path below none (get_front nodes more m.0 path at) are some
+  member_grows m found (other path none at are) = other path none (get_front nodes more m.0 path at) are
+
+  members_grow : (members found : List NodeId) → AreMembers g nodes members found → AreMembers g (nodes ++ more) members found
+  members_grow members found no_member = no_member
+  members_grow members found (one_more {front = front} {found = before} {more = last} m are is) = one_more m (members_grow front before are) (member_grows m last is)
+
+  stands_grow : (word : List ℕ) (found : List NodeId) → StandsFor g around map nodes word found → StandsFor g around map (nodes ++ more) word found
+  stands_grow word found (stands.alias members some are) = stands.alias members some (members_grow (each_node members) found are)
+  stands_grow word found (stands.of_path none is_one (node is one)) =
+      stands.of_path none is_one (node is (record { id = one.id; at = get_front nodes more one.id.0 (spelling g.top word) one.at; one = one.one }))
+  stands_grow word found (stands.of_path none is_one (above bare below)) = stands.of_path none is_one (above bare below)
+
+  pub all_grow : (requests : List Request) → AllStand g around map nodes requests → AllStand g around map (nodes ++ more) requests
+  all_grow requests all =
+      All-weaker (RequestStands g around map nodes) (RequestStands g around map (nodes ++ more)) (λ (r : Request) h. stands_grow r.word r.nodes.items h) requests all
+
+-- over a graph whose paths got numbers: one request more
+module _ {W : Type 0} (m : Meaning W) (g k l : RuleGraph) (grown : HasGrown g k) (more : HasGrown k l) (reading : IsReading g) (apart : AreApart k.nodes) (a b : W) (looks : Looks m a b) where
+  pub stand_more : (old new : List Request) (request : Request) (word : List ℕ) → new ≡ old ++ request ∷ [] → request.word ≡ word
+      → (AtRest m a → AllStand g (m.around a) (image_in (m.seen a)) k.nodes old) → (AtRest m b → StandsFor k (m.around b) (image_in (m.seen b)) l.nodes word request.nodes.items)
+      → AtRest m b → AllStand g (m.around b) (image_in (m.seen b)) l.nodes new
+  stand_more old new request word is same before one rest =
+      let around = m.around b in
+      let records = image_in (m.seen b) in
+      let here = moved m (λ x y. AllStand g x y k.nodes old) a b looks rest (before (rest_before m a b looks rest)) in
+      let wider = subst (λ (n : List (List ℕ)). AllStand g around records n old) (sym more.nodes) (all_grow g around records k.nodes more.more old here) in
+      let last = subst (λ (w : List ℕ). StandsFor g around records l.nodes w request.nodes.items) (sym same)
+          (stands_back g k grown reading apart around records l.nodes word request.nodes.items (one rest)) in
+      subst (λ (all : List Request). AllStand g around records l.nodes all) (sym is) (All-push (RequestStands g around records l.nodes) old request wider last)
+
+pub stand_none : {W : Type 0} (m : Meaning W) (g k : RuleGraph) (a : W) (requests : List Request) → requests ≡ [] → AtRest m a → AllStand g (m.around a) (image_in (m.seen a)) k.nodes requests
+stand_none m g k a requests none rest =
+    subst (λ (all : List Request). AllStand g (m.around a) (image_in (m.seen a)) k.nodes all) (sym none) (All-nil (RequestStands g (m.around a) (image_in (m.seen a)) k.nodes))

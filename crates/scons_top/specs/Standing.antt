@@ -9,7 +9,7 @@ use Rattle.world_api.specs.Meaning.{Meaning}
 use Rattle.world_api.specs.Reads.{kind_of}
 use Rattle.world_api.specs.declared.world.Kind.TheVariants.{File}
 use Rattle.rule_graph.specs.Aliases.{members_of}
-use Rattle.rule_graph.specs.Graphs.{RuleGraph, path_of}
+use Rattle.rule_graph.specs.Graphs.{RuleGraph}
 use Rattle.rule_graph.specs.Rules.{rule_of}
 use Rattle.sign_store.specs.Ends.{image_in}
 use Rattle.sign_store.specs.Tables.{Map}
@@ -27,21 +27,23 @@ with_node nodes node = if list_any (λ (other : NodeId). nat_eq node.0 other.0) 
 abbrev pub each_node : List NodeId → List NodeId
 each_node nodes = fold with_node [] nodes
 
--- What a member stands for: itself, where a rule makes it; else the declared targets below it, in the order of their paths, or itself
--- where there are none.
-pub data IsMember (g : RuleGraph) (member : NodeId) : List NodeId → Type 0 where
-  made : (number : ℕ) → rule_of g.rules member.0 ≡ Some number → IsMember g member (member ∷ [])
-  dir : {below : List NodeId} → rule_of g.rules member.0 ≡ None → AreBelow g (path_of g.nodes member) below → below ≢ [] → IsMember g member below
-  other : rule_of g.rules member.0 ≡ None → AreBelow g (path_of g.nodes member) [] → IsMember g member (member ∷ [])
+-- What a member stands for, where these paths have a number: itself, where a rule makes it; else the declared targets below it, in the order of
+-- their paths, or itself where there are none.
+pub data IsMember (g : RuleGraph) (nodes : List (List ℕ)) (member : NodeId) : List NodeId → Type 0 where
+  ruled : (number : ℕ) → rule_of g.rules member.0 ≡ Some number → IsMember g nodes member (member ∷ [])
+  dir : (path : List ℕ) (below : List NodeId) → rule_of g.rules member.0 ≡ None → slice_get nodes member.0 ≡ Some path → AreBelow g path below → below ≢ [] →
+      IsMember g nodes member below
+  other : (path : List ℕ) → rule_of g.rules member.0 ≡ None → slice_get nodes member.0 ≡ Some path → AreBelow g path [] → IsMember g nodes member (member ∷ [])
 
 -- what members stand for, one behind the other
-pub data AreMembers (g : RuleGraph) : List NodeId → List NodeId → Type 0 where
-  no_member : AreMembers g [] []
-  one_more : {front nodes more : List NodeId} (member : NodeId) → AreMembers g front nodes → IsMember g member more → AreMembers g (front ++ member ∷ []) (nodes ++ more)
+pub data AreMembers (g : RuleGraph) (nodes : List (List ℕ)) : List NodeId → List NodeId → Type 0 where
+  no_member : AreMembers g nodes [] []
+  one_more : {front found more : List NodeId} (member : NodeId) → AreMembers g nodes front found → IsMember g nodes member more →
+      AreMembers g nodes (front ++ member ∷ []) (found ++ more)
 
 -- a member was added
 abbrev pub AddsMember : RuleGraph → NodeId → List NodeId → List NodeId → Type 0
-AddsMember g member old new = (more : List NodeId) × IsMember g member more × (new ≡ old ++ more)
+AddsMember g member old new = (more : List NodeId) × IsMember g g.nodes member more × (new ≡ old ++ more)
 
 -- ---- a path
 
@@ -70,8 +72,8 @@ pub data PathStandsFor (g : RuleGraph) (around : Around) (map : Map) (nodes : Li
 
 -- The members of an alias, each once; or what the path stands for.
 pub data StandsFor (g : RuleGraph) (around : Around) (map : Map) (nodes : List (List ℕ)) (word : List ℕ) (found : List NodeId) : Type 0 where
-  alias : (members : List NodeId) → members_of g.aliases word ≡ Some members → AreMembers g (each_node members) found → StandsFor g around map nodes word found
-  path : members_of g.aliases word ≡ None → is_path word ≡ true → PathStandsFor g around map nodes (spelling g.top word) found → StandsFor g around map nodes word found
+  alias : (members : List NodeId) → members_of g.aliases word ≡ Some members → AreMembers g nodes (each_node members) found → StandsFor g around map nodes word found
+  of_path : members_of g.aliases word ≡ None → is_path word ≡ true → PathStandsFor g around map nodes (spelling g.top word) found → StandsFor g around map nodes word found
 
 -- so does each request
 abbrev pub RequestStands : RuleGraph → Around → Map → List (List ℕ) → Request → Type 0

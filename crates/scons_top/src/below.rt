@@ -37,7 +37,7 @@ impl Below {
         ensures knows { KnowsNodes graph.now self.old → KnowsNodes graph.now self.new }
         ensures nodes { KnowsNodes graph.now self.old → GivesNodes graph.now result }
         ensures lists { KnowsTargets graph.now self.old → KnowsTargets graph.now self.new }
-        ensures stand { KnowsTargets graph.now self.old → IfOk result (λ nodes. AreMembers graph.now (each_node members.now) nodes.items) }
+        ensures stand { KnowsTargets graph.now self.old → IfOk result (λ nodes. AreMembers graph.now graph.now.nodes (each_node members.now) nodes.items) }
     {
         let mut met = IndexSet::new(alloc);
         let mut nodes = Vec::new(alloc);

@@ -13,6 +13,7 @@ use Rattle.scons_top.proofs.Grown.{grown_here, grown_on}
 use Rattle.scons_top.proofs.Requesting.{asks_pushed, words_pushed}
 use Rattle.scons_top.proofs.Watching.{watches_on, watches_same}
 use Rattle.scons_top.proofs.Causing.{world_back, world_exit, world_memory}
+use Rattle.scons_top.proofs.Standing.{if_none, stand_more, stand_none}
 use Rattle.scons_top.proofs.Declaring.{grows_by_paths}
 use Rattle.scons_top.proofs.requests.requests_for.Goals as goal
 
@@ -36,6 +37,7 @@ loop-word-init g c =
       grown = grown_here graph;
       of = of_nothing m graph world c.new-lookups.result (c.new-lookups.ensures.lists graph) c.new-lookups.ensures.none;
       names = λ rest. All-nil (NamesSome graph (m.around world) (image_in (m.seen world)));
+      stand = stand_none m graph graph world c.new-requests.result.items none;
       words = ap words_asked none;
     }
 
@@ -54,6 +56,10 @@ loop-word-preserved g c =
       names = words_more g.W.Disk.meaning c.args.graph.now c.loop-word.graph c.loop-word.invariant.grown reading c.request_of.ensures.apart c.loop-word.world c.request_of.new.world
           c.args.asked.now c.loop-word.word-index c.word-item.result c.request_of.ensures.watches.looks c.loop-word-test.true c.word-item.is c.loop-word.invariant.names
           (c.in_ok-request_of.ensures.names (of_there g.W.Disk.meaning c.args.graph.now c.loop-word.graph c.loop-word.invariant.grown reading c.request_of.ensures.apart c.loop-word.world c.loop-word.lookups c.loop-word.invariant.of));
+      stand = stand_more g.W.Disk.meaning c.args.graph.now c.loop-word.graph c.request_of.new.graph c.loop-word.invariant.grown c.request_of.ensures.grown reading c.request_of.ensures.apart
+          c.loop-word.world c.request_of.new.world c.request_of.ensures.watches.looks c.loop-word.requests.items _ _ c.word-item.result c.in_ok-push.ensures.items c.in_ok-request_of.ensures.word
+          c.loop-word.invariant.stand
+          (c.in_ok-request_of.ensures.stands (of_there g.W.Disk.meaning c.args.graph.now c.loop-word.graph c.loop-word.invariant.grown reading c.request_of.ensures.apart c.loop-word.world c.loop-word.lookups c.loop-word.invariant.of));
       words = words_pushed c.loop-word.requests.items _ _ c.args.asked.now c.loop-word.word-index c.word-item.result c.loop-word-test.true c.word-item.is
           c.in_ok-push.ensures.items c.in_ok-request_of.ensures.word c.loop-word.invariant.words;
     }
@@ -117,3 +123,12 @@ returns-in_err-push-clause-grown g c =
 pub returns-clause-grown : goal.returns-clause-grown
 returns-clause-grown g c =
     grows_by_paths c.args.graph.now c.loop-word.graph c.loop-word.invariant.grown (record { apart = c.laws.ensures.apart; single = c.laws.ensures.single; named = c.laws.ensures.named })
+
+pub returns-in_err-request_of-clause-stand : goal.returns-in_err-request_of-clause-stand
+returns-in_err-request_of-clause-stand g c = λ rest. if_none _ c.from_residual.result _ c.from_residual.ensures.1
+
+pub returns-in_err-push-clause-stand : goal.returns-in_err-push-clause-stand
+returns-in_err-push-clause-stand g c = λ rest. if_none _ c.from_residual-in_err-push.result _ c.from_residual-in_err-push.ensures.1
+
+pub returns-clause-stand : goal.returns-clause-stand
+returns-clause-stand g c = c.loop-word.invariant.stand

@@ -6,6 +6,7 @@ use Rattle.scons_top.specs.Finding.{AreOf}
 use Rattle.scons_top.specs.Naming.{HasGrown, NamesSome}
 use Rattle.scons_top.specs.Asked.{words_asked}
 use Rattle.scons_top.specs.Requested.{AskForNodes, KnowsNodes}
+use Rattle.scons_top.specs.Standing.{AllStand}
 use Rattle.scons_top.specs.Watching.{Watches}
 use Rattle.scons_top.proofs.requests.requests_for.Given as goal
 
@@ -18,5 +19,6 @@ invariant-loop-word g l = record {
   grown : HasGrown l.fn.graph l.graph;
   of : AreOf g.W.Disk.meaning l.fn.graph l.world l.lookups;
   names : AtRest g.W.Disk.meaning l.world → All (NamesSome l.fn.graph (g.W.Disk.meaning.around l.world) (image_in (g.W.Disk.meaning.seen l.world))) (take l.word-index l.asked);
+  stand : AtRest g.W.Disk.meaning l.world → AllStand l.fn.graph (g.W.Disk.meaning.around l.world) (image_in (g.W.Disk.meaning.seen l.world)) l.graph.nodes l.requests.items;
   words : words_asked l.requests.items ≡ take l.word-index l.asked;
 }

@@ -5,6 +5,7 @@ use Rattle.scons_top.specs.Asked.{asked_by, IsUnknownOf, StopsFor}
 use Rattle.scons_top.specs.Finding.{FindsWords}
 use Rattle.scons_top.proofs.Finding.{words_memory}
 use Rattle.scons_top.proofs.Causing.{world_memory}
+use Rattle.scons_top.proofs.Standing.{if_none}
 use Rattle.scons_top.proofs.Declaring.{grows_here}
 use Rattle.scons_top.proofs.requests.requests_of.Goals as goal
 
@@ -52,3 +53,12 @@ returns-in_err-asked-in_default-clause-grown g c = grows_here c.args.graph.now
 
 pub returns-clause-grown : goal.returns-clause-grown
 returns-clause-grown g c = c.requests_for.ensures.grown
+
+pub returns-in_err-asked-in-empty-clause-stand : goal.returns-in_err-asked-in-empty-clause-stand
+returns-in_err-asked-in-empty-clause-stand g c = λ rest. if_none _ c.from_residual.result _ c.from_residual.ensures.1
+
+pub returns-in_err-asked-in_default-clause-stand : goal.returns-in_err-asked-in_default-clause-stand
+returns-in_err-asked-in_default-clause-stand g c = λ rest. let r = c.from_residual-in_err-asked-in_default in if_none _ r.result _ r.ensures.1
+
+pub returns-clause-stand : goal.returns-clause-stand
+returns-clause-stand g c = c.requests_for.ensures.stand

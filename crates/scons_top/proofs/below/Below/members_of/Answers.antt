@@ -19,10 +19,21 @@ loop-member-preserved c =
         knows = λ known. subst (KnowsNodes g) (sym w.self-is) (w.add_member.ensures.knows (before.knows known));
         nodes = λ known. subst are (sym w.nodes-is) (w.add_member.ensures.nodes (before.knows known) (before.nodes known));
         lists = λ known. subst (KnowsTargets g) (sym w.self-is) (w.add_member.ensures.lists (before.lists known));
+        met = met_more;
+        stand = λ known.
+            let new = fresh (w.if-is_new.true) in
+            subst (λ (v : Vec NodeId Global). AreMembers g g.nodes (each_node (take (i + 1) members)) v.items) (sym w.nodes-is)
+            (subst (λ (all : List NodeId). AreMembers g g.nodes all w.add_member.new.nodes.items) (sym (once ∙ new))
+            (members_more g (each_node (take i members)) c.loop-member.nodes.items w.add_member.new.nodes.items item (before.stand known) (w.in_ok-add_member.ensures.adds (before.lists known))));
       }
       | else-is_new w ↦ record {
         knows = λ known. subst (KnowsNodes g) (sym w.self-is) (before.knows known);
         nodes = λ known. subst are (sym w.nodes-is) (before.nodes known);
         lists = λ known. subst (KnowsTargets g) (sym w.self-is) (before.lists known);
+        met = met_more;
+        stand = λ known.
+            let same = stale (w.if-is_new.false) in
+            subst (λ (v : Vec NodeId Global). AreMembers g g.nodes (each_node (take (i + 1) members)) v.items) (sym w.nodes-is)
+            (subst (λ (all : List NodeId). AreMembers g g.nodes all c.loop-member.nodes.items) (sym (once ∙ same)) (before.stand known));
       }
     ]
