@@ -1,6 +1,6 @@
 -- What words stand for, as they are looked for one after another.
 use Rattle.std.proofs.Common.{◌≡◌, ◌≢◌, ◌∙◌, ◌≤◌, ◌<◌, ◌+◌, ◌⊎◌, inl, inr, ap, sym, subst, refl, ℕ, Bool, true, false, List, [], ◌∷◌, ◌++◌, Option, Some, None, append-nil, append_assoc, fold, length, take, get_or, arith}
-use Rattle.std.specs.Prelude.{All, IfOk, IsErrAnd, Ok, Err, OnOk, Result, Vec, nat_eq, slice_get, if◌then◌else◌}
+use Rattle.std.specs.Prelude.{not, All, IfOk, IsErrAnd, Ok, Err, OnOk, Result, Vec, nat_eq, slice_get, if◌then◌else◌}
 use Rattle.std.specs.List.{list_any}
 use Rattle.std.proofs.lemmas.Bool.{false≢true}
 use Rattle.std.proofs.lemmas.List.{take_more}
@@ -56,6 +56,24 @@ members_more g front found new m are adds = subst (AreMembers g g.nodes (front +
 pub once_more : (members : List NodeId) (i : ℕ) (d m : NodeId) → i < length members → m ≡ get_or members i d → each_node (take (i + 1) members) ≡ with_node (each_node (take i members)) m
 once_more members i d m lt at =
     ap each_node (take_more members i d lt) ∙ fold-append with_node [] (take i members) (get_or members i d ∷ []) ∙ ap (with_node (each_node (take i members))) (sym at)
+
+once_by : (ks : List NodeId) (m : NodeId) (has : Bool) → list_any (λ (other : NodeId). nat_eq m.0 other.0) ks ≡ has → with_node ks m ≡ (if has then ks else ks ++ m ∷ [])
+once_by ks m has is = ap (λ (b : Bool). if b then ks else ks ++ m ∷ []) is
+
+not_true : (b : Bool) → not b ≡ true → b ≡ false
+not_true true e = absurd (false≢true e)
+not_true false e = refl
+
+not_false : (b : Bool) → not b ≡ false → b ≡ true
+not_false true e = refl
+not_false false e = absurd (false≢true (sym e))
+
+-- a member that is met for the first time, and one that was met before
+pub once_new : (ks : List NodeId) (m : NodeId) (is_new : Bool) → is_new ≡ not (list_any (λ (other : NodeId). nat_eq m.0 other.0) ks) → is_new ≡ true → with_node ks m ≡ ks ++ m ∷ []
+once_new ks m is_new is yes = once_by ks m false (not_true (list_any (λ (other : NodeId). nat_eq m.0 other.0) ks) (sym is ∙ yes))
+
+pub once_old : (ks : List NodeId) (m : NodeId) (is_new : Bool) → is_new ≡ not (list_any (λ (other : NodeId). nat_eq m.0 other.0) ks) → is_new ≡ false → with_node ks m ≡ ks
+once_old ks m is_new is no = once_by ks m true (not_false (list_any (λ (other : NodeId). nat_eq m.0 other.0) ks) (sym is ∙ no))
 
 -- ---- paths
 
